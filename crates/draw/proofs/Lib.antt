@@ -1,0 +1,2 @@
+-- What is shown of the definitions of specs/, and belongs to no one function.
+pub mod Laws

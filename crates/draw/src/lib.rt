@@ -1,0 +1,128 @@
+// Drawing and choosing: a generator by value, whose methods hand back the number and the next state.
+ghost use mathlib.Core.Path.{_≡_};
+ghost use Rattle.draw.specs.Xorshift.{nextOf};
+ghost use Rattle.draw.specs.Draw.{drawOf, choiceOf, headsOf};
+
+pub struct Generator {
+    pub state: u32,
+}
+
+// A number that was asked for: reason 0, or 11 with the number 0 and the state as it was.
+pub struct Drawn {
+    pub reason: u32,
+    pub number: u32,
+    pub next: Generator,
+}
+
+// The state after y.
+pub fn stepped(y: u32) -> u32
+    ensures { λ r. ⌜ r ≡ nextOf y ⌝ }
+{
+    let a = y ^ (y << 13);
+    let b = a ^ (a >> 17);
+    b ^ (b << 5)
+}
+
+impl Generator {
+    pub fn new(seed: u32) -> Self
+        ensures { λ r. ⌜ r .state ≡ seed ⌝ }
+    {
+        Generator { state: seed }
+    }
+
+    pub fn drawn(self) -> Drawn
+        ensures { λ r. ⌜ r ≡ drawOf (self .state) ⌝ }
+    {
+        let y = self.state;
+        if y == 0 {
+            return Drawn {
+                reason: 11,
+                number: 0,
+                next: self,
+            };
+        }
+        let n = stepped(y);
+        Drawn {
+            reason: 0,
+            number: n,
+            next: Generator { state: n },
+        }
+    }
+
+    pub fn choice(self, m: u32) -> Drawn
+        ensures { λ r. ⌜ r ≡ choiceOf m (self .state) ⌝ }
+    {
+        let y = self.state;
+        if y == 0 {
+            return Drawn {
+                reason: 11,
+                number: 0,
+                next: self,
+            };
+        }
+        if m == 0 {
+            return Drawn {
+                reason: 11,
+                number: 0,
+                next: self,
+            };
+        }
+        let n = stepped(y);
+        Drawn {
+            reason: 0,
+            number: n % m,
+            next: Generator { state: n },
+        }
+    }
+
+    pub fn heads(self, bias: u32) -> Drawn
+        ensures { λ r. ⌜ r ≡ headsOf bias (self .state) ⌝ }
+    {
+        let y = self.state;
+        if y == 0 {
+            return Drawn {
+                reason: 11,
+                number: 0,
+                next: self,
+            };
+        }
+        if 1000 < bias {
+            return Drawn {
+                reason: 11,
+                number: 0,
+                next: self,
+            };
+        }
+        let n = stepped(y);
+        if n % 1000 < bias {
+            Drawn {
+                reason: 0,
+                number: 1,
+                next: Generator { state: n },
+            }
+        } else {
+            Drawn {
+                reason: 0,
+                number: 0,
+                next: Generator { state: n },
+            }
+        }
+    }
+}
+
+// Moves the lent generator on, and gives the number. From the state 0 the number is 0, and the state stays.
+pub fn draw(g: &mut Generator) -> u32
+    ensures { λ r. ⌜ (r ≡ drawOf (now (g .entry) .state) .number) × (now (g .exit) ≡ drawOf (now (g .entry) .state) .next) ⌝ }
+{
+    let n = stepped(g.state);
+    g.state = n;
+    n
+}
+
+// The number of one draw from the seed, by a generator that is lent: whoever calls this needs no walk by hand.
+pub fn draw_from(seed: u32) -> u32
+    ensures { λ r. ⌜ r ≡ drawOf seed .number ⌝ }
+{
+    let mut g = Generator { state: seed };
+    draw(&mut g)
+}

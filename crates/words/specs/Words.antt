@@ -1,0 +1,46 @@
+-- The values of the terms lie in words of 32 bits, 32 terms to a word, low bit first. Assumes nothing.
+use mathlib.Core.List.{List}
+use mathlib.Core.Path.{_≡_}
+use Prim.Native.Nat.{ℕ, zero, suc, _+_, _-_, _*_, _/_, _%_, _^_, _≤_, _<_, min}
+use lib.ListN.{getD, set}
+use lib.Bits.{bitXor}
+use Rattle.draw.specs.Xorshift.{nextOf}
+
+-- digit j of the number w, counted from the lowest
+unfoldable pub bitOf : ℕ → ℕ → ℕ
+bitOf w j = w / 2 ^ j % 2
+
+-- the value of the term t, 0 or 1
+unfoldable pub bitAt : List ℕ → ℕ → ℕ
+bitAt ws t = bitOf (getD ws (t / 32) 0) (t % 32)
+
+-- the words with the value of the term t turned
+unfoldable pub turnAt : List ℕ → ℕ → List ℕ
+turnAt ws t = set ws (t / 32) (bitXor (getD ws (t / 32) 0) (2 ^ (t % 32)))
+
+-- the drawn word, of which the k lowest digits are kept
+unfoldable pub keepLow : ℕ → ℕ → ℕ
+keepLow k w = w % 2 ^ min k 32
+
+-- the words with the drawn word w as word k, where n terms are known: the digits past the last term are 0
+unfoldable pub putAt : List ℕ → ℕ → ℕ → ℕ → List ℕ
+putAt ws n k w = set ws k (keepLow (n - 32 * k) w)
+
+-- how many of the terms below n are true
+unfoldable pub trues : List ℕ → ℕ → ℕ
+trues ws zero = 0
+trues ws (suc t) = trues ws t + bitAt ws t
+
+-- the generator's state after k draws from the state y
+unfoldable pub stateAfter : ℕ → ℕ → ℕ
+stateAfter y zero = y
+stateAfter y (suc k) = nextOf (stateAfter y k)
+
+-- the words after the first k of them have been drawn, for n terms, from the state y
+unfoldable pub filled : List ℕ → ℕ → ℕ → ℕ → List ℕ
+filled ws n y zero = ws
+filled ws n y (suc k) = putAt (filled ws n y k) n k (stateAfter y (suc k))
+
+-- how many words n terms take
+unfoldable pub wordCount : ℕ → ℕ
+wordCount n = (n + 31) / 32
