@@ -1,0 +1,47 @@
+-- Cases, tests and sums: what every other law leans on. Assumes nothing.
+use Prim.Native.Nat.{ℕ, zero, suc, _+_, _-_, _*_, _≤_, _<_}
+use mathlib.Core.Path.{_≡_, refl, ap, ap₂, sym, subst, _∙_}
+use mathlib.Core.Bool.{Bool, true, false, cond, _&&_, false≢true}
+use mathlib.Core.List.{List, [], _∷_, _++_}
+use native.Mathlib.Omega.{arith}
+use lib.ListN.{length, getD, set}
+use lib.Dec.{eqb, ltb, leb, eqb→eq, T}
+use Rattle.written.specs.Lists.{total, all, same}
+
+-- the two cases of a test
+pub by-cases : {A : Type 0} (b : Bool) → (b ≡ true → A) → (b ≡ false → A) → A
+by-cases true f g = f refl
+by-cases false f g = g refl
+
+-- both of two tests that hold together
+pub both-first : (a b : Bool) → (a && b) ≡ true → a ≡ true
+both-first true b h = refl
+both-first false b h = absurd (false≢true h)
+
+pub both-second : (a b : Bool) → (a && b) ≡ true → b ≡ true
+both-second true b h = h
+both-second false b h = absurd (false≢true h)
+
+pub both : (a b : Bool) → a ≡ true → b ≡ true → (a && b) ≡ true
+both a b h k = rw h k
+
+-- a test that holds, as an equation
+pub eq-of : (x y : ℕ) → eqb x y ≡ true → x ≡ y
+eq-of x y e = eqb→eq x y (subst T (sym e) tt)
+
+-- the two lists that `same` takes for the same are the same
+pub same-eq : (xs ys : List ℕ) → same xs ys ≡ true → xs ≡ ys
+same-eq [] [] h = refl
+same-eq [] (y ∷ ys) h = absurd (false≢true h)
+same-eq (x ∷ xs) [] h = absurd (false≢true h)
+same-eq (x ∷ xs) (y ∷ ys) h = cons (eqb x y) refl (same-eq xs ys) h
+  where
+    cons : (b : Bool) → eqb x y ≡ b → (same xs ys ≡ true → xs ≡ ys) → (b && same xs ys) ≡ true → x ∷ xs ≡ y ∷ ys
+    cons true e rest k = ap₂ {C = List ℕ} (λ a r. a ∷ r) (eq-of x y e) (rest k)
+    cons false e rest k = absurd (false≢true k)
+
+-- a list changed in one place, summed
+pub total-set : {A : Type 0} (h : A → ℕ) (xs : List A) (c : ℕ) (y d : A) → c < length xs → total h (set xs c y) + h (getD xs c d) ≡ total h xs + h y
+total-set h [] c y d k = absurd (omega arith)
+total-set h (x ∷ xs) zero y d k = omega arith
+total-set h (x ∷ xs) (suc c) y d k = let e = total-set h xs c y d (omega arith) in omega arith

@@ -1,0 +1,28 @@
+-- Lists made of numbers, padded and written over others: their lengths and entries. Assumes nothing.
+use Prim.Native.Nat.{ℕ, zero, suc, _+_, _-_, _≤_, _<_}
+use mathlib.Core.Path.{_≡_, refl, ap, _∙_}
+use mathlib.Core.List.{List, [], _∷_, _++_}
+use native.Mathlib.Omega.{arith}
+use lib.ListN.{length, getD, drop, length-append, length-replicate, length-drop}
+use Rattle.written.specs.Lists.{listFrom, zeros, padded, steps}
+use Rattle.written.specs.Tables.{over}
+
+pub listFrom-length : {A : Type 0} (i n : ℕ) (f : ℕ → A) → length (listFrom i n f) ≡ n
+listFrom-length i zero f = refl
+listFrom-length i (suc n) f = ap suc (listFrom-length (suc i) n f)
+
+pub listFrom-getD : {A : Type 0} (i n k : ℕ) (f : ℕ → A) (d : A) → k < n → getD (listFrom i n f) k d ≡ f (i + k)
+listFrom-getD i zero k f d h = absurd (omega arith)
+listFrom-getD i (suc n) zero f d h = ap f (omega arith)
+listFrom-getD i (suc n) (suc k) f d h = listFrom-getD (suc i) n k f d (omega arith) ∙ ap f (omega arith)
+
+pub padded-length : (n : ℕ) (xs : List ℕ) → length xs ≤ n → length (padded n xs) ≡ n
+padded-length n xs h = let a = length-append xs (zeros (n - length xs)) in let b = length-replicate {A = ℕ} (n - length xs) 0 in omega arith
+
+pub over-length : (new old : List ℕ) → length new ≤ length old → length (over new old) ≡ length old
+over-length new old h = omega (arith, length-append new (drop (length new) old), length-drop (length new) old)
+
+-- steps over two lists, one after the other
+pub steps-joined : {A S : Type 0} (f : A → S → S) (xs ys : List A) (s : S) → steps f (xs ++ ys) s ≡ steps f ys (steps f xs s)
+steps-joined f [] ys s = refl
+steps-joined f (x ∷ xs) ys s = steps-joined f xs ys (f x s)

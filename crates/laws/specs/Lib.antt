@@ -1,0 +1,2 @@
+-- What the laws speak of beside the definitions of `written`.
+pub mod Valid
