@@ -1,2 +1,3 @@
 -- What the laws speak of beside the definitions of `written`.
 pub mod Valid
+pub mod Demands

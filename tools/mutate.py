@@ -1,0 +1,155 @@
+#!/usr/bin/env python3
+"""mutate.py [FILE..]: edits the definitions of `written` in one place at a time and says which edits its tables of examples let pass.
+
+It works on a copy of the repository, so the tree stays as it is. An edit that passes is either a gap in the tables or one that means the
+same; those known to mean the same are marked SAME with the reason."""
+import shutil, subprocess, sys, tempfile
+from pathlib import Path
+
+ROOT = Path(__file__).resolve().parent.parent
+SPECS = Path("crates/written/specs")
+
+# file: (what stands there, what is put there)
+EDITS = {
+    "Clauses": [
+        ('2 * k + cond negated 1 0', '2 * k + cond negated 0 1'),
+        ('eqb (trueCount vs ls) 1', 'eqb (trueCount vs ls) 2'),
+        ('isUncovered vs ls = eqb (trueCount vs ls) 0', 'isUncovered vs ls = eqb (trueCount vs ls) 1'),
+        ('(those (λ l. eqb (termOf l) t) ls)', 'ls'),
+    ],
+    "Reading": [
+        ('(goes d)\n    (cond (has (numbered d l (not', '(drops (dropped d))\n    (cond (has (numbered d l (not'),
+        ('(drops (dropped d))\n    (cond (not', '(goes d)\n    (cond (not'),
+        ('leb (lim .terms) (length (d .names))', 'ltb (lim .terms) (length (d .names))'),
+        ('leb (lim .literals) (held d)', 'ltb (lim .literals) (held d)'),
+        ('held d = total length (d .clauses) + length (d .line)', 'held d = total length (d .clauses)'),
+        ('leb (lim .clauses) (length (d .clauses))', 'ltb (lim .clauses) (length (d .clauses))'),
+        ('atToken lim d (True n) = drops (dropped d)', 'atToken lim d (True n) = goes d'),
+        ('ltb (lim .text) (length t)', 'leb (lim .text) (length t)'),
+        ('nextLine t c = scan t (passed t c) .next', 'nextLine t c = passed t c'),
+        ('nextLine t c = scan t (passed t c) .next', 'nextLine t c = scan t c .next'),
+        ('dropped d = record { names = d .names; clauses = d .clauses; line = [] }', 'dropped d = record { names = d .names; clauses = d .clauses; line = d .line }'),
+        ('cond (has name names) names (names ++ name ∷ [])', 'names ++ name ∷ []'),
+    ],
+    "Drawing": [
+        ('choice o m y = choiceOf m y', 'choice o m y = choiceOf m (nextOf y)'),
+        ('startState n y = stateAfter y (wordCount n)', 'startState n y = y'),
+        ('listOf n (bitAt (draws (wordCount n) y))', 'listOf n (bitAt (y ∷ []))'),
+    ],
+    "Flips": [
+        ('set vs t (1 - getD vs t 0)', 'set vs t 1'),
+        ('falseLiteral vs t = literalOf t (eqb (getD vs t 0) 1)', 'falseLiteral vs t = literalOf t (eqb (getD vs t 0) 0)'),
+        ('trueLiteral vs t = literalOf t (eqb (getD vs t 0) 0)', 'trueLiteral vs t = literalOf t (eqb (getD vs t 0) 1)'),
+        ('(set us (placeOf c us) (getD us (length us - 1) 0))', 'us'),
+        ('(movedIf enter (turned t vs) cs)', '(movedIf enter vs cs)'),
+        ('enter c us = us ++ c ∷ []', 'enter c us = c ∷ us'),
+    ],
+    "Walk": [
+        ('leastOf (breakOf s l) (map (breakOf s) ls)', 'breakOf s l'),
+        ('oneOf o (l ∷ []) y = record { picked = l; state = y }', 'oneOf o (l ∷ []) y = chosenFrom o (l ∷ []) y'),
+        ('eqb (d .number) 1', 'eqb (d .number) 0'),
+        ('(chosenFrom o ls (d .next .state))', '(oneOf o ls (d .next .state))'),
+        ('ltb 0 (leastBreak s ls)', 'ltb 1 (leastBreak s ls)'),
+        ('oneOf o ties (d .next .state)', 'chosenFrom o ls (d .next .state)'),
+        ('generator = startState (length (m .state .file .names)) (m .generator)', 'generator = m .generator'),
+        ('step o m = inClause o m (chosenFrom o (m .state .uncovered) (m .generator))', 'step o m = inClause o m (oneOf o (m .state .uncovered) (m .generator))'),
+        ('generator = p .state; flips = suc (m .flips)', 'generator = p .state; flips = m .flips'),
+        ('foundOr (suc n) (onwards', 'foundOr n (onwards'),
+    ],
+    "Sheet": [
+        ('leb (length ds) 10', 'leb (length ds) 11'),
+        ('(eqb (length ds) 1 || not (eqb (getD ds 0 0) 48))', 'true'),
+        ('ltb (lineLength input) (length input) &&', 'true &&'),
+    ],
+    "Orders": [
+        ('least = 1; most = 4294967295', 'least = 0; most = 4294967295'),
+        ('least = 0; most = 1000 }', 'least = 0; most = 1001 }'),
+    ],
+    "Printed": [
+        ('cond (eqb v 0) (126', 'cond (eqb v 1) (126'),
+        ('cond (e .found) (decimal (chosen (e .last .state))) (bytes "0")', 'decimal (chosen (e .last .state))'),
+    ],
+    "Tables": [
+        ('starts = n .clauses + 1', 'starts = n .clauses'),
+        ('occurrenceStarts = 2 * n .terms + 1', 'occurrenceStarts = 2 * n .terms'),
+        ('b + 2 * wordOf bs', 'b + 3 * wordOf bs'),
+        ('cond (has c us) (placeOf c us) 0', 'placeOf c us'),
+        ('startsFrom (at + length p) ps', 'startsFrom (at + 1) ps'),
+        ('new ++ drop (length new) old', 'new'),
+        ('leb n (length xs)', 'leb n (1 + length xs)'),
+    ],
+    "Agreement": [
+        (' && ltb 0 (n .clauses)', ''),
+        ('leb (n .terms) (lim .terms) && ', ''),
+        ('leb (n .clauses) (lim .clauses) && ', ''),
+        ('leb (n .literals) (lim .literals)', 'leb (n .terms) (lim .terms)'),
+        ('not (eqb x 0) && nameBytes 8 x', 'nameBytes 8 x'),
+        ('all isName (s .file .names) && ', ''),
+        (' && differ (s .file .names)', ''),
+        ('eqb (getD (t .starts) 0 0) 0\n    && ', ''),
+        ('ltb (getD (t .starts) c 0)', 'leb (getD (t .starts) c 0)'),
+        ('\n    && eqb (getD (t .starts) (n .clauses) 0) (n .literals)', ''),
+        ('all (λ l. ltb l (2 * n .terms)) ls && ', ''),
+        (' && differ (map termOf ls)', ''),
+        ('same (u .occurrenceStarts) (inUse s .occurrenceStarts) && ', ''),
+        (' && same (u .occurrences) (inUse s .occurrences)', ''),
+        ('same (u .trues) (inUse s .trues) && ', ''),
+        ('same (u .breaks) (inUse s .breaks)\n    && ', ''),
+        ('\n    && eqb (n .uncovered) (length (uncoveredIn (s .values) (s .file .clauses)))', ''),
+        ('eqb (times c (s .uncovered)) 1 && ', ''),
+        (' && eqb (getD (u .places) c 0) (placeOf c (s .uncovered))', ''),
+        ('every (all (λ x. eqb x 0)) (each drop (sizes n) (each take (fullSizes lim) t))\n    && ', ''),
+        ('every (all (λ x. eqb x 0)) (each drop (sizes n) (each take (fullSizes lim) t))', 'every (all (λ x. eqb x 0)) (each drop (sizes n) t)'),
+        ('same (u .values) (inUse s .values)\n    && ', ''),
+        ('\n    && all (λ c. has c (s .uncovered) || eqb (getD (u .places) c 0) 0) (below (n .clauses))', ''),
+    ],
+    "Outcomes": [
+        ('tables = cleared lim t }', 'tables = t }'),
+        ('(cond (ltb (lim .list) (length ts)) (flipsRefused n t LongList)\n    (cond (not (agree lim n t)) (flipsRefused n t Disagreement)', '(cond (not (agree lim n t)) (flipsRefused n t Disagreement)\n    (cond (ltb (lim .list) (length ts)) (flipsRefused n t LongList)'),
+        ('(cond (not (inRange o)) (walkRefused n t OutOfRange)\n    (cond (not (agree lim n t)) (walkRefused n t Disagreement)', '(cond (not (agree lim n t)) (walkRefused n t Disagreement)\n    (cond (not (inRange o)) (walkRefused n t OutOfRange)'),
+        ('ltb (lim .list) (length ts)', 'ltb (length ts) (lim .list)'),
+        ('(λ v. ltb v (n .terms))', '(λ v. ltb v (lim .terms))'),
+    ],
+}
+
+# edits that mean the same, with the reason
+SAME = {
+}
+
+
+def passes(copy):
+    run = subprocess.run(["rt", "dev", "written"], cwd=copy, capture_output=True, text=True)
+    return "logic=proved" in run.stdout + run.stderr
+
+
+def judge(copy, name, old, new):
+    path = copy / SPECS / f"{name}.antt"
+    text = path.read_text()
+    if text.count(old) != 1:
+        return "UNFIT (stands %d times)" % text.count(old)
+    path.write_text(text.replace(old, new))
+    try:
+        if not passes(copy):
+            return "refused"
+        return "same: " + SAME[old] if old in SAME else "PASSES"
+    finally:
+        path.write_text(text)
+
+
+def main():
+    chosen = sys.argv[1:] or list(EDITS)
+    tally = {}
+    with tempfile.TemporaryDirectory() as place:
+        copy = Path(place) / "copy"
+        shutil.copytree(ROOT, copy, ignore=shutil.ignore_patterns(".git", "cargo"))
+        for name in chosen:
+            for old, new in EDITS[name]:
+                verdict = judge(copy, name, old, new)
+                tally[verdict.split()[0]] = tally.get(verdict.split()[0], 0) + 1
+                print(f"{name}: {old!r} -> {new!r}: {verdict}", flush=True)
+    print(", ".join(f"{n} {v}" for v, n in sorted(tally.items())))
+    return 1 if "PASSES" in tally or "UNFIT" in tally else 0
+
+
+if __name__ == "__main__":
+    sys.exit(main())
