@@ -1,7 +1,7 @@
 -- Cases, tests and sums: what every other law leans on. Assumes nothing.
 use Prim.Native.Nat.{ℕ, zero, suc, _+_, _-_, _*_, _≤_, _<_}
 use mathlib.Core.Path.{_≡_, refl, ap, ap₂, sym, subst, _∙_}
-use mathlib.Core.Bool.{Bool, true, false, cond, _&&_, false≢true}
+use mathlib.Core.Bool.{Bool, true, false, cond, _&&_, _||_, false≢true, true≢false}
 use mathlib.Core.List.{List, [], _∷_, _++_}
 use native.Mathlib.Omega.{arith}
 use lib.ListN.{length, getD, set}
@@ -12,6 +12,11 @@ use Rattle.written.specs.Lists.{total, all, same}
 pub by-cases : {A : Type 0} (b : Bool) → (b ≡ true → A) → (b ≡ false → A) → A
 by-cases true f g = f refl
 by-cases false f g = g refl
+
+-- what is chosen by a test, in both cases
+pub by-test : {A : Type 0} (P : A → Type 0) (b : Bool) {x y : A} → (b ≡ true → P x) → (b ≡ false → P y) → P (cond b x y)
+by-test P true f g = f refl
+by-test P false f g = g refl
 
 -- both of two tests that hold together
 pub both-first : (a b : Bool) → (a && b) ≡ true → a ≡ true
@@ -24,6 +29,15 @@ both-second false b h = absurd (false≢true h)
 
 pub both : (a b : Bool) → a ≡ true → b ≡ true → (a && b) ≡ true
 both a b h k = rw h k
+
+-- neither of two tests of which none holds
+pub neither-first : (a b : Bool) → (a || b) ≡ false → a ≡ false
+neither-first true b h = absurd (true≢false h)
+neither-first false b h = refl
+
+pub neither-second : (a b : Bool) → (a || b) ≡ false → b ≡ false
+neither-second true b h = absurd (true≢false h)
+neither-second false b h = h
 
 -- a test that holds, as an equation
 pub eq-of : (x y : ℕ) → eqb x y ≡ true → x ≡ y

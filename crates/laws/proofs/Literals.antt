@@ -10,7 +10,7 @@ use borrow.Author.Tests.{eqb-true, eqb-false, ne-eqb, eq-eqb, not-true}
 use Rattle.written.specs.Lists.{total, has, differ}
 use Rattle.written.specs.Clauses.{literalOf, termOf, valueOf, trueCount, isUncovered}
 use Rattle.written.specs.Flips.{turned, falseLiteral, trueLiteral}
-use Rattle.laws.proofs.Basics.{by-cases, both-first, both-second}
+use Rattle.laws.proofs.Basics.{by-cases, both-first, both-second, neither-first, neither-second}
 use Rattle.laws.proofs.Turning.{turned-same, turned-other}
 
 -- ---- literals
@@ -72,15 +72,6 @@ module _ (vs : List ℕ) (t : ℕ) (b : getD vs t 0 < 2) where
       omega arith
 
 -- ---- clauses
-
--- neither of two tests that fail together
-pub neither-first : (a b : Bool) → (a || b) ≡ false → a ≡ false
-neither-first true b h = h
-neither-first false b h = refl
-
-pub neither-second : (a b : Bool) → (a || b) ≡ false → b ≡ false
-neither-second true b h = absurd (false≢true (sym h))
-neither-second false b h = h
 
 -- a clause in which a true literal stands is covered
 has-total : (h : ℕ → ℕ) (l : ℕ) (ls : List ℕ) → has l ls ≡ true → h l ≤ total h ls

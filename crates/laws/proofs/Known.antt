@@ -1,0 +1,76 @@
+-- Literals of terms, names of which one more may be known, and clauses over more terms. Assumes nothing.
+use Prim.Native.Nat.{ℕ, _*_, _≤_, _<_}
+use mathlib.Core.Path.{_≡_, refl}
+use mathlib.Core.Bool.{Bool, true, false, not, _&&_}
+use mathlib.Core.List.{List, [], _∷_, map}
+use native.Mathlib.Omega.{arith}
+use borrow.Author.Tests.{ltb-true, lt-ltb, leb-false, eqb-false, ne-eqb}
+use lib.ListN.{length, length-append}
+use lib.Dec.{eqb, ltb, leb}
+use Rattle.written.specs.Lists.{all, has, placeOf, differ}
+use Rattle.written.specs.Clauses.{literalOf, termOf}
+use Rattle.written.specs.Reading.{known}
+use Rattle.laws.specs.Valid.{isClause}
+use Rattle.laws.proofs.Basics.{by-cases, both-first, both-second, neither-first, neither-second}
+use Rattle.laws.proofs.Membership.{all-snoc, all-implied, differ-snoc, placeOf-lt, placeOf-none}
+
+-- ---- terms and their literals
+
+pub term-of-literal : (k : ℕ) (b : Bool) → termOf (literalOf k b) ≡ k
+unfolding termOf literalOf
+term-of-literal k true = omega arith
+term-of-literal k false = omega arith
+
+pub literal-below : (k n : ℕ) (b : Bool) → k < n → literalOf k b < 2 * n
+unfolding literalOf
+literal-below k n true h = omega arith
+literal-below k n false h = omega arith
+
+-- a literal that is neither of a term's two is not the term's
+pub other-term : (k x : ℕ) (b : Bool) → (literalOf k b ≡ x → ⊥) → (literalOf k (not b) ≡ x → ⊥) → k ≡ termOf x → ⊥
+unfolding termOf literalOf
+other-term k x true n m e = omega arith
+other-term k x false n m e = omega arith
+
+-- a line that has neither of a term's two literals has not the term
+pub new-term : (k : ℕ) (b : Bool) (ls : List ℕ) → has (literalOf k b) ls ≡ false → has (literalOf k (not b)) ls ≡ false → has k (map termOf ls) ≡ false
+new-term k b [] h g = refl
+new-term k b (l ∷ ls) h g =
+    let one = literalOf k b in
+    let two = literalOf k (not b) in
+    let not-one = eqb-false one l (neither-first (eqb one l) (has one ls) h) in
+    let not-two = eqb-false two l (neither-first (eqb two l) (has two ls) g) in
+    let rest = new-term k b ls (neither-second (eqb one l) (has one ls) h) (neither-second (eqb two l) (has two ls) g) in
+    rw (ne-eqb k (termOf l) (other-term k l b not-one not-two), rest)
+
+-- ---- names, one more of which may be known
+
+module _ (x : ℕ) (ns : List ℕ) where
+  pub known-longer : length ns ≤ length (known x ns)
+  known-longer = by-cases (has x ns) (λ e. rw e (omega arith)) (λ e. rw e (omega (arith, length-append ns (x ∷ []))))
+
+  pub known-place : placeOf x ns < length (known x ns)
+  known-place = by-cases (has x ns) (λ e. rw e (placeOf-lt x ns e)) (λ e. rw e (omega (arith, placeOf-none x ns e, length-append ns (x ∷ []))))
+
+  pub known-few : (m : ℕ) → (not (has x ns) && leb m (length ns)) ≡ false → length ns ≤ m → length (known x ns) ≤ m
+  known-few m room h = by-cases (has x ns) (λ e. rw e h) (λ e. rw e (omega (arith, leb-false m (length ns) (rw e at room), length-append ns (x ∷ []))))
+
+  pub known-all : (p : ℕ → Bool) → p x ≡ true → all p ns ≡ true → all p (known x ns) ≡ true
+  known-all p h k = by-cases (has x ns) (λ e. rw e k) (λ e. rw e (all-snoc p ns x k h))
+
+  pub known-differ : differ ns ≡ true → differ (known x ns) ≡ true
+  known-differ h = by-cases (has x ns) (λ e. rw e h) (λ e. rw e (differ-snoc ns x h e))
+
+-- ---- clauses over more terms
+
+pub below-more : (m n : ℕ) → m ≤ n → (ls : List ℕ) → all (λ l. ltb l (2 * m)) ls ≡ true → all (λ l. ltb l (2 * n)) ls ≡ true
+below-more m n h = all-implied (λ l. ltb l (2 * m)) (λ l. ltb l (2 * n)) (λ l e. lt-ltb l (2 * n) (omega (arith, ltb-true l (2 * m) e)))
+
+pub clause-more : (m n : ℕ) → m ≤ n → (ls : List ℕ) → isClause m ls ≡ true → isClause n ls ≡ true
+unfolding isClause
+clause-more m n h ls e =
+    let some = ltb 0 (length ls) in
+    let low = all (λ l. ltb l (2 * m)) ls in
+    let apart = differ (map termOf ls) in
+    let first = both-first (some && low) apart e in
+    rw (both-first some low first, below-more m n h ls (both-second some low first)) (both-second (some && low) apart e)
