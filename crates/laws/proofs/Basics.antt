@@ -1,4 +1,4 @@
--- Cases, tests and sums: what every other law leans on. Assumes nothing.
+-- Cases and tests: what every other law leans on. Assumes nothing.
 use Prim.Native.Nat.{ℕ, zero, suc, _+_, _-_, _*_, _≤_, _<_}
 use mathlib.Core.Path.{_≡_, refl, ap, ap₂, sym, subst, _∙_}
 use mathlib.Core.Bool.{Bool, true, false, cond, _&&_, _||_, false≢true, true≢false}
@@ -54,8 +54,9 @@ same-eq (x ∷ xs) (y ∷ ys) h = cons (eqb x y) refl (same-eq xs ys) h
     cons true e rest k = ap₂ {C = List ℕ} (λ a r. a ∷ r) (eq-of x y e) (rest k)
     cons false e rest k = absurd (false≢true k)
 
--- a list changed in one place, summed
-pub total-set : {A : Type 0} (h : A → ℕ) (xs : List A) (c : ℕ) (y d : A) → c < length xs → total h (set xs c y) + h (getD xs c d) ≡ total h xs + h y
-total-set h [] c y d k = absurd (omega arith)
-total-set h (x ∷ xs) zero y d k = omega arith
-total-set h (x ∷ xs) (suc c) y d k = let e = total-set h xs c y d (omega arith) in omega arith
+-- a test counted as 1 or 0
+pub one-if : (b : Bool) → b ≡ true → _≡_ {A = ℕ} (cond b 1 0) 1
+one-if b e = rw e
+
+pub none-if : (b : Bool) → b ≡ false → _≡_ {A = ℕ} (cond b 1 0) 0
+none-if b e = rw e

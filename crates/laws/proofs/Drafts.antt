@@ -16,7 +16,9 @@ use Rattle.written.specs.Clauses.{literalOf, termOf}
 use Rattle.written.specs.Agreement.{isName}
 use Rattle.written.specs.Reading.{Reading, Draft, accepted, refused, known, taken, kept, dropped, nothing, atTextEnd}
 use Rattle.laws.specs.Valid.{isClause, Proper}
-use Rattle.laws.proofs.Membership.{all-snoc, all-implied, total-append, differ-snoc}
+use Rattle.laws.proofs.Sums.{total-append}
+use Rattle.laws.proofs.All.{all-snoc, all-implied}
+use Rattle.laws.proofs.Membership.{differ-snoc}
 use Rattle.laws.proofs.Known.{term-of-literal, literal-below, new-term, known-longer, known-place, known-few, known-all, known-differ, below-more, clause-more}
 use Rattle.laws.proofs.Tokens.{wellNamed}
 use Rattle.laws.proofs.Turns.{Room, Keeps}

@@ -17,7 +17,8 @@ use Rattle.written.specs.Limits.{Limits}
 use Rattle.written.specs.Reasons.{fault, faultAt}
 use Rattle.written.specs.Reading.{Reading, Draft, accepted, refused, nothing, atTextEnd, readText}
 use Rattle.laws.proofs.Basics.{by-cases, by-test}
-use Rattle.laws.proofs.Membership.{total-take, times-le}
+use Rattle.laws.proofs.Sums.{total-take}
+use Rattle.laws.proofs.Times.{times-le}
 use Rattle.laws.proofs.Turns.{Keeps, namesLine, read-by}
 use Rattle.laws.proofs.Lines.{linesTo, lines-all, scan-lined}
 

@@ -12,7 +12,8 @@ use Rattle.written.specs.Clauses.{literalOf, termOf}
 use Rattle.written.specs.Reading.{known}
 use Rattle.laws.specs.Valid.{isClause}
 use Rattle.laws.proofs.Basics.{by-cases, both-first, both-second, neither-first, neither-second}
-use Rattle.laws.proofs.Membership.{all-snoc, all-implied, differ-snoc, placeOf-lt, placeOf-none}
+use Rattle.laws.proofs.All.{all-snoc, all-implied}
+use Rattle.laws.proofs.Membership.{differ-snoc, placeOf-lt, placeOf-none}
 
 -- ---- terms and their literals
 

@@ -17,8 +17,8 @@ use Rattle.scan.proofs.Laws.{past-ge}
 use Rattle.written.specs.Lists.{times}
 use Rattle.written.specs.Agreement.{isNameByte}
 use Rattle.laws.proofs.Basics.{by-cases, by-test}
+use Rattle.laws.proofs.Sums.{total-append, total-take}
 use Rattle.laws.proofs.Turns.{inText}
-use Rattle.laws.proofs.Membership.{total-append, total-take}
 
 -- ---- bytes 10
 

@@ -10,7 +10,7 @@ use lib.Dec.{ltb, eqb}
 use Rattle.written.specs.Lists.{all, times, steps}
 use Rattle.written.specs.Clauses.{State}
 use Rattle.written.specs.Flips.{turned, flip, flipped}
-use Rattle.laws.proofs.Times.{total-joined}
+use Rattle.laws.proofs.Sums.{total-append}
 use Rattle.laws.proofs.Flips.{flips-joined}
 use Rattle.laws.proofs.Turning.{bit-at, turns-length, turns-bits, turns-count}
 
@@ -56,4 +56,4 @@ module _ (s : State) (bits : all (λ v. ltb v 2) (s .values) ≡ true) where
   unfolding flipped
   twice-back ts =
       ap (λ (e : State). e .values) (sym (flips-joined ts ts s))
-      ∙ same-parity (ts ++ ts) [] (λ t l. let e = total-joined (λ u. cond (eqb t u) 1 0) ts ts in omega arith)
+      ∙ same-parity (ts ++ ts) [] (λ t l. let e = total-append (λ u. cond (eqb t u) 1 0) ts ts in omega arith)

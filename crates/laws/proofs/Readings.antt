@@ -12,6 +12,7 @@ use Rattle.written.specs.Clauses.{File, asRead, afresh}
 use Rattle.written.specs.Reading.{accepted, readText, nothing}
 use Rattle.laws.specs.Valid.{Proper, Valid}
 use Rattle.laws.proofs.Basics.{by-test}
+use Rattle.laws.proofs.All.{all-zeros}
 use Rattle.laws.proofs.Tokens.{scan-well}
 use Rattle.laws.proofs.Turns.{read-by}
 use Rattle.laws.proofs.Drafts.{Fits, Sound, nothing-fits, token-fits, end-sound}
@@ -30,11 +31,6 @@ reading-sound lim t =
 pub reading-proper : (lim : Limits) (t : List ℕ) (f : File) → readText lim t ≡ accepted f → Proper lim f
 reading-proper lim t f e = subst (Sound lim) e (reading-sound lim t)
 
--- values of 0 are bits
-zeros-bits : (n : ℕ) → all (λ v. ltb v 2) (zeros n) ≡ true
-zeros-bits zero = refl
-zeros-bits (suc n) = zeros-bits n
-
 -- a proper file at values of 0 is a valid state
 pub as-read-valid : (lim : Limits) (f : File) → Proper lim f → Valid lim (asRead f)
 unfolding asRead afresh
@@ -42,7 +38,7 @@ as-read-valid lim f h =
     record {
       proper = h;
       one-each = length-replicate (length (f .names)) 0;
-      bits = zeros-bits (length (f .names));
+      bits = all-zeros (λ v. ltb v 2) refl (length (f .names));
       listed = record { same-times = λ c. refl };
     }
 

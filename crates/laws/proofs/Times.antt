@@ -1,87 +1,50 @@
--- How often an entry stands in a list: after one leaves or enters, among the entries that pass a test, in two orders of one list. Assumes nothing.
-use Prim.Native.Nat.{ℕ, zero, suc, _+_, _-_, _≤_, _<_}
+-- How often a number stands in a list: among the entries that pass a test, among the numbers of such entries, in two orders of one list.
+-- Assumes nothing.
+use Prim.Native.Nat.{ℕ, zero, suc, _+_, _≤_, _<_}
 use mathlib.Core.Path.{_≡_, refl, ap, sym, _∙_}
-use mathlib.Core.Bool.{Bool, true, false, cond, _&&_, false≢true}
-use mathlib.Core.List.{List, [], _∷_, _++_}
+use mathlib.Core.Bool.{Bool, true, false, not, cond, _&&_, false≢true}
+use mathlib.Core.List.{List, [], _∷_}
 use native.Mathlib.Omega.{arith}
-use lib.ListN.{length, getD, set, take, length-set}
-use lib.Seq.{getD-set-same, getD-set-other}
+use lib.ListN.{length, getD}
 use lib.Dec.{eqb, ltb, leb·suc-suc}
-use borrow.Author.Tests.{lt-ltb, le-ltb, eqb-true, eqb-false, eq-eqb, ne-eqb}
-use Rattle.written.specs.Lists.{total, all, those, whereFrom, placeOf, times, steps}
-use Rattle.written.specs.Flips.{leave, enter}
-use Rattle.laws.proofs.Basics.{by-cases, both, both-first, both-second, total-set}
+use borrow.Author.Tests.{lt-ltb, le-ltb, ltb-true, eqb-false, eq-eqb, ne-eqb, not-true}
+use Rattle.written.specs.Lists.{total, all, those, whereFrom, listFrom, below, has, times, differ}
+use Rattle.laws.proofs.Basics.{by-cases, both, both-first, both-second, eq-of, one-if, none-if}
+use Rattle.laws.proofs.Lists.{listFrom-getD, listFrom-length}
+use Rattle.laws.proofs.Sums.{total-by, total-ones, total-swap, total-tight}
+use Rattle.laws.proofs.All.{all-getD, all-has, has-all}
 
--- a sum over joined lists
-pub total-joined : {A : Type 0} (h : A → ℕ) (xs ys : List A) → total h (xs ++ ys) ≡ total h xs + total h ys
-total-joined h [] ys = omega arith
-total-joined h (x ∷ xs) ys = let e = total-joined h xs ys in omega arith
+-- no entry stands more often than there are entries
+pub times-le : (x : ℕ) (ys : List ℕ) → times x ys ≤ length ys
+times-le x [] = omega arith
+times-le x (y ∷ ys) = let h = times-le x ys in by-cases (eqb x y) (λ e. rw e (omega arith)) (λ e. rw e (omega arith))
 
--- a sum over all but the last entry
-total-front : (h : ℕ → ℕ) (xs : List ℕ) (n : ℕ) → length xs ≡ suc n → total h (take n xs) + h (getD xs n 0) ≡ total h xs
-total-front h [] n e = absurd (omega arith)
-total-front h (x ∷ []) zero e = omega arith
-total-front h (x ∷ y ∷ xs) zero e = absurd (omega arith)
-total-front h (x ∷ xs) (suc n) e = let i = total-front h xs n (omega arith) in omega arith
+-- to stand in a list is to stand there more than no time
+pub has-is : (x : ℕ) (ys : List ℕ) → has x ys ≡ ltb 0 (times x ys)
+has-is x [] = refl
+has-is x (y ∷ ys) =
+    by-cases (eqb x y) (λ e. rw e (sym (lt-ltb 0 (1 + times x ys) (omega arith))))
+    (λ e. let z : times x ys ≡ 0 + times x ys = omega arith in rw e (has-is x ys ∙ ap (λ n. ltb 0 n) z))
 
--- a test counted as 1 or 0
-pub one-if : (b : Bool) → b ≡ true → _≡_ {A = ℕ} (cond b 1 0) 1
-one-if b e = rw e
+pub has-times : (x : ℕ) (ys : List ℕ) → has x ys ≡ true → 0 < times x ys
+has-times x ys h = ltb-true 0 (times x ys) (sym (has-is x ys) ∙ h)
 
-pub none-if : (b : Bool) → b ≡ false → _≡_ {A = ℕ} (cond b 1 0) 0
-none-if b e = rw e
+pub times-has : (x : ℕ) (ys : List ℕ) → 0 < times x ys → has x ys ≡ true
+times-has x ys h = has-is x ys ∙ lt-ltb 0 (times x ys) h
 
--- an entry that stands in the list stands at its place
-pub place-below : (c : ℕ) (us : List ℕ) → 0 < times c us → placeOf c us < length us
-place-below c [] h = absurd (omega arith)
-place-below c (u ∷ us) h =
-    by-cases (eqb c u) (λ e. rw e omega arith) (λ e. let n = none-if (eqb c u) e in let k = place-below c us (omega arith) in rw e omega arith)
+-- in a list without repeats at most once
+pub differ-times : (x : ℕ) (ys : List ℕ) → differ ys ≡ true → times x ys ≡ cond (has x ys) 1 0
+differ-times x [] h = refl
+differ-times x (y ∷ ys) h =
+    let r = differ-times x ys (both-second (not (has y ys)) _ h) in
+    by-cases (eqb x y)
+    (λ e.
+    let m : has x ys ≡ false = rw (eq-of x y e) (not-true (has y ys) (both-first (not (has y ys)) _ h)) in
+    let z : times x ys ≡ 0 = rw m at r in
+    rw e (omega arith))
+    (λ e. rw e (let z : times x ys ≡ cond (has x ys) 1 0 = r in omega arith))
 
-pub place-holds : (c : ℕ) (us : List ℕ) → 0 < times c us → getD us (placeOf c us) 0 ≡ c
-place-holds c [] h = absurd (omega arith)
-place-holds c (u ∷ us) h =
-    by-cases (eqb c u) (λ e. rw e (sym (eqb-true c u e))) (λ e. let n = none-if (eqb c u) e in let k = place-holds c us (omega arith) in rw e k)
-
--- ---- what leaves and what enters
-
--- a sum after an entry has left, and after one has entered
-pub total-leave : (h : ℕ → ℕ) (d : ℕ) (us : List ℕ) → 0 < times d us → total h (leave d us) + h d ≡ total h us
-unfolding leave
-total-leave h d us k =
-    let p = placeOf d us in
-    let n = length us - 1 in
-    let x = getD us n 0 in
-    let l = place-below d us k in
-    let put = total-set h us p x 0 l in
-    let cut = total-front h (set us p x) n (length-set us p x ∙ omega arith) in
-    let a : h (getD us p 0) ≡ h d = ap h (place-holds d us k) in
-    let b : h (getD (set us p x) n 0) ≡ h x = ap h (last us p n l) in
-    omega arith
-  where
-    last : (us : List ℕ) (p n : ℕ) → p < length us → getD (set us p (getD us n 0)) n 0 ≡ getD us n 0
-    last us p n l =
-        by-cases (eqb n p) (λ e. rw (eqb-true n p e) (getD-set-same us p (getD us p 0) 0 l)) (λ e. getD-set-other us p n (getD us n 0) 0 (eqb-false n p e))
-
-pub total-enter : (h : ℕ → ℕ) (d : ℕ) (us : List ℕ) → total h (enter d us) ≡ total h us + h d
-unfolding enter
-total-enter h d us = let e = total-joined h us (d ∷ []) in omega arith
-
--- the same when a whole list leaves, each entry of which stands, or enters
-pub total-leaving : (h : ℕ → ℕ) (ds us : List ℕ) → ((c : ℕ) → times c ds ≤ times c us) → total h (steps leave ds us) + total h ds ≡ total h us
-total-leaving h [] us k = omega arith
-total-leaving h (d ∷ ds) us k =
-    let a = k d in
-    let b = one-if (eqb d d) (eq-eqb d d refl) in
-    let stands : 0 < times d us = omega arith in
-    let e = total-leave h d us stands in
-    let i = total-leaving h ds (leave d us) (λ c. let f = total-leave (λ y. cond (eqb c y) 1 0) d us stands in let g = k c in omega arith) in
-    omega arith
-
-pub total-entering : (h : ℕ → ℕ) (ds us : List ℕ) → total h (steps enter ds us) ≡ total h us + total h ds
-total-entering h [] us = omega arith
-total-entering h (d ∷ ds) us = let e = total-enter h d us in let i = total-entering h ds (enter d us) in omega arith
-
--- ---- tests
+-- ---- among the entries that pass a test
 
 -- two entries that a test tells apart
 pub apart : (p : ℕ → Bool) (c d : ℕ) → p c ≡ false → p d ≡ true → c ≡ d → ⊥
@@ -101,6 +64,12 @@ times-those p c (d ∷ ds) = by-cases (p c) (passes (times-those p c ds)) (fails
     fails i e =
         let j : times c (those p ds) ≡ 0 = rw e at i in
         rw e (by-cases (p d) (λ f. rw f let n = none-if (eqb c d) (ne-eqb c d (apart p c d e f)) in omega arith) (λ f. rw f j))
+
+-- ---- among the numbers of the entries that pass a test
+
+pub where-length : {A : Type 0} (i : ℕ) (p : A → Bool) (xs : List A) → length (whereFrom i p xs) ≡ total (λ x. cond (p x) 1 0) xs
+where-length i p [] = refl
+where-length i p (x ∷ xs) = let r = where-length (suc i) p xs in by-cases (p x) (λ e. rw e (omega arith)) (λ e. rw e (omega arith))
 
 -- how often a number stands among the numbers, from i on, of the entries that pass a test
 pub times-before : {A : Type 0} (p : A → Bool) (i c : ℕ) (xs : List A) → c < i → times c (whereFrom i p xs) ≡ 0
@@ -124,38 +93,69 @@ times-where p i (suc c) (x ∷ xs) d =
     let j : times (i + suc c) (whereFrom (suc i) p xs) ≡ cond (ltb c (length xs) && p (getD xs c d)) 1 0 = rw m k in
     rw (leb·suc-suc (suc c) (length xs)) (by-cases (p x) (λ e. rw e omega arith) (λ e. rw e j))
 
--- what stands in a list passes the test that all its entries pass
-pub passes-there : (p : ℕ → Bool) (x : ℕ) (xs : List ℕ) → all p xs ≡ true → 0 < times x xs → p x ≡ true
-passes-there p x [] h k = absurd (omega arith)
-passes-there p x (y ∷ ys) h k =
-    by-cases (eqb x y)
-    (λ e. ap p (eqb-true x y e) ∙ both-first (p y) (all p ys) h)
-    (λ e. let n = none-if (eqb x y) e in passes-there p x ys (both-second (p y) (all p ys) h) (omega arith))
+pub where-after : {A : Type 0} (c i : ℕ) (p : A → Bool) (xs : List A) → i + length xs ≤ c → times c (whereFrom i p xs) ≡ 0
+where-after c i p [] l = refl
+where-after c i p (x ∷ xs) l =
+    let r = where-after c (suc i) p xs (omega arith) in
+    by-cases (p x) (λ e. rw (e, ne-eqb c i (λ q. omega arith)) (omega arith)) (λ e. rw e r)
 
-pub all-there : (p : ℕ → Bool) (xs : List ℕ) → ((x : ℕ) → 0 < times x xs → p x ≡ true) → all p xs ≡ true
-all-there p [] k = refl
-all-there p (y ∷ ys) k =
-    let n = one-if (eqb y y) (eq-eqb y y refl) in
-    both (p y) (all p ys) (k y (omega arith)) (all-there p ys (λ x l. k x (omega arith)))
+-- each once
+pub where-once : {A : Type 0} (c i : ℕ) (p : A → Bool) (xs : List A) → times c (whereFrom i p xs) ≤ 1
+where-once c i p [] = omega arith
+where-once c i p (x ∷ xs) =
+    let r = where-once c (suc i) p xs in
+    by-cases (p x)
+    (λ e.
+    rw e
+    (by-cases (eqb c i)
+    (λ q. let z = eq-of c i q in let w = times-before p (suc i) c xs (omega arith) in rw q (omega arith))
+    (λ q. rw q (omega arith))))
+    (λ e. rw e r)
 
--- ---- two orders of one list
+-- ---- counted over numbers
 
-module _ (xs ys : List ℕ) (same : (c : ℕ) → times c xs ≡ times c ys) where
-  -- the same sum
-  pub reordered-total : (h : ℕ → ℕ) → total h xs ≡ total h ys
-  reordered-total h =
-      let a = total-leaving h xs ys (λ c. let k = same c in omega arith) in
-      let b = total-leaving h ys xs (λ c. let k = same c in omega arith) in
-      omega arith
+-- a number stands once among those below another
+none-before : (i n x : ℕ) → x < i → total (λ k. cond (eqb k x) 1 0) (listFrom i n (λ k. k)) ≡ 0
+none-before i zero x h = refl
+none-before i (suc n) x h = rw (ne-eqb i x (λ e. omega arith)) (let z = none-before (suc i) n x (omega arith) in omega arith)
 
-  -- the same length
-  pub reordered-length : length xs ≡ length ys
-  reordered-length = let a = ones xs in let b = ones ys in let c = reordered-total (λ x. 1) in omega arith
-    where
-      ones : (zs : List ℕ) → total (λ z. 1) zs ≡ length zs
-      ones [] = refl
-      ones (z ∷ zs) = let i = ones zs in omega arith
+one-among : (i n x : ℕ) → i ≤ x → x < i + n → total (λ k. cond (eqb k x) 1 0) (listFrom i n (λ k. k)) ≡ 1
+one-among i zero x h l = absurd (omega arith)
+one-among i (suc n) x h l =
+    by-cases (eqb i x) (λ e. let q = eq-of i x e in rw e (let z = none-before (suc i) n x (omega arith) in omega arith))
+    (λ e. let q = eqb-false i x e in rw e (let z = one-among (suc i) n x (omega arith) (omega arith) in omega arith))
 
-  -- the same tests
-  pub reordered-all : (p : ℕ → Bool) → all p xs ≡ true → all p ys ≡ true
-  reordered-all p h = all-there p ys (λ x l. let k = same x in passes-there p x xs h (omega arith))
+-- summed over the numbers below m, of a list of such numbers, it is the length
+pub times-below : (m : ℕ) (xs : List ℕ) → all (λ x. ltb x m) xs ≡ true → total (λ k. times k xs) (below m) ≡ length xs
+times-below m xs h =
+    total-swap (λ k y. cond (eqb k y) 1 0) (below m) xs
+    ∙ total-by (λ y. total (λ k. cond (eqb k y) 1 0) (below m)) (λ y. 1) xs 0
+    (λ k l. one-among 0 m (getD xs k 0) (omega arith) (omega (arith, ltb-true (getD xs k 0) m (all-getD (λ x. ltb x m) xs k 0 l h))))
+    ∙ total-ones xs
+
+-- ---- two lists
+
+pub bounded : (m : ℕ) (xs : List ℕ) → total (λ x. x) xs < m → all (λ x. ltb x m) xs ≡ true
+bounded m [] h = refl
+bounded m (x ∷ xs) h = both (ltb x m) _ (lt-ltb x m (omega arith)) (bounded m xs (omega arith))
+
+-- lists that hold the same numbers as often are as long
+pub reordered-length : (xs ys : List ℕ) → ((c : ℕ) → times c xs ≡ times c ys) → length xs ≡ length ys
+reordered-length xs ys h =
+    let m = suc (total (λ x. x) xs + total (λ x. x) ys) in
+    sym (times-below m xs (bounded m xs (omega arith))) ∙ total-by (λ k. times k xs) (λ k. times k ys) (below m) 0 (λ k l. h (getD (below m) k 0))
+    ∙ times-below m ys (bounded m ys (omega arith))
+
+-- lists as long, of which one holds no number more often, hold the same numbers as often
+pub same-times : (xs ys : List ℕ) → ((c : ℕ) → times c xs ≤ times c ys) → length xs ≡ length ys → (c : ℕ) → times c xs ≡ times c ys
+same-times xs ys h e c =
+    let m = suc (c + total (λ x. x) xs + total (λ x. x) ys) in
+    let a = times-below m xs (bounded m xs (omega arith)) in
+    let b = times-below m ys (bounded m ys (omega arith)) in
+    let l = listFrom-length 0 m (λ (k : ℕ). k) in
+    let q : getD (below m) c 0 ≡ c = listFrom-getD 0 m c (λ k. k) 0 (omega arith) ∙ (omega arith) in
+    rw q at (total-tight (λ k. times k xs) (λ k. times k ys) (below m) c 0 h (a ∙ e ∙ sym b) (omega arith))
+
+-- two orders of one list pass the same tests
+pub reordered-all : (xs ys : List ℕ) → ((c : ℕ) → times c xs ≡ times c ys) → (p : ℕ → Bool) → all p xs ≡ true → all p ys ≡ true
+reordered-all xs ys same p h = has-all p ys (λ x m. all-has p xs x (times-has x xs (omega (arith, same x, has-times x ys m))) h)

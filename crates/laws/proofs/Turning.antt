@@ -4,20 +4,14 @@ use mathlib.Core.Path.{_≡_, refl, _∙_}
 use mathlib.Core.Bool.{Bool, true}
 use mathlib.Core.List.{List, [], _∷_}
 use native.Mathlib.Omega.{arith}
-use lib.ListN.{length, getD, set, length-set}
+use lib.ListN.{length, getD, length-set}
 use lib.Seq.{getD-set-same, getD-set-other, set-out}
 use lib.Dec.{eqb, ltb}
 use borrow.Author.Tests.{ltb-true, ltb-false, lt-ltb, eqb-true, eqb-false}
 use Rattle.written.specs.Lists.{all, those, times, steps}
 use Rattle.written.specs.Flips.{turned}
-use Rattle.laws.proofs.Basics.{by-cases, both, both-first, both-second}
-use Rattle.laws.proofs.Times.{one-if, none-if}
-
--- a list changed in one place passes the test if the new entry does
-pub all-set : {A : Type 0} (p : A → Bool) (xs : List A) (k : ℕ) (y : A) → all p xs ≡ true → p y ≡ true → all p (set xs k y) ≡ true
-all-set p [] k y h e = refl
-all-set p (x ∷ xs) zero y h e = both (p y) (all p xs) e (both-second (p x) (all p xs) h)
-all-set p (x ∷ xs) (suc k) y h e = both (p x) (all p (set xs k y)) (both-first (p x) (all p xs) h) (all-set p xs k y (both-second (p x) (all p xs) h) e)
+use Rattle.laws.proofs.Basics.{by-cases, both, both-first, both-second, one-if, none-if}
+use Rattle.laws.proofs.All.{all-set}
 
 -- every value of a list of bits is 0 or 1
 pub bit-at : (vs : List ℕ) (t : ℕ) → all (λ v. ltb v 2) vs ≡ true → getD vs t 0 < 2

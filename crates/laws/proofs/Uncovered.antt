@@ -12,7 +12,8 @@ use Rattle.written.specs.Clauses.{State, isUncovered, uncoveredIn, occurrencesO
 use Rattle.written.specs.Flips.{turned, falseLiteral, trueLiteral, leave, enter, movedIf, afterLeaving, afterEntering, flip}
 use Rattle.laws.specs.Valid.{Listed}
 use Rattle.laws.proofs.Basics.{by-cases}
-use Rattle.laws.proofs.Times.{times-those, times-where, total-leaving, total-entering}
+use Rattle.laws.proofs.Times.{times-those, times-where}
+use Rattle.laws.proofs.Leaving.{total-leaving, total-entering}
 use Rattle.laws.proofs.Literals.{covered-by, uncovered-kept, true-before, false-after}
 
 -- the clauses that move are those of the run that are uncovered

@@ -1,12 +1,21 @@
 -- How walks end: found means that no clause is uncovered, and the walks and flips are bounded. Assumes nothing.
-use Prim.Native.Nat.{ℕ, zero, suc, _+_, _≤_}
-use mathlib.Core.Path.{_≡_, refl}
-use mathlib.Core.Bool.{true, false≢true}
+use Prim.Native.Nat.{ℕ, zero, suc, _+_, _*_, _≤_, _<_}
+use mathlib.Core.Path.{_≡_, refl, sym}
+use mathlib.Core.Bool.{true, false, false≢true}
+use mathlib.Core.List.{List, [], _∷_}
 use native.Mathlib.Omega.{arith}
+use native.Mathlib.Nat.{mul-comm}
+use lib.ListN.{length}
 use Rattle.written.specs.declared.Order.{Order}
-use Rattle.written.specs.Walk.{Moment, Outcome, start, step, onwards, isFound, walksFrom, foundOr, flipPicked, inClause}
-use Rattle.laws.proofs.Basics.{by-cases}
+use Rattle.written.specs.Clauses.{File, asRead}
+use Rattle.written.specs.Walk.{Moment, Outcome, start, step, onwards, isFound, walksFrom, walkOver, foundOr, flipPicked, inClause}
+use Rattle.laws.proofs.Basics.{by-cases, eq-of}
 
+-- where the walks of an order over a file begin
+abbrev pub begun : Order → File → Moment
+begun o f = record { state = asRead f; generator = o .seed; flips = 0 }
+
+-- a step makes one flip
 pub step-flips : (o : Order) (m : Moment) → step o m .flips ≡ suc (m .flips)
 unfolding step inClause flipPicked
 step-flips o m = refl
@@ -18,24 +27,82 @@ onwards-flips o zero m = omega arith
 onwards-flips o (suc k) m =
     by-cases (isFound (m .state)) (λ e. rw e omega arith) (λ e. rw e let h = onwards-flips o k (step o m) in let s = step-flips o m in omega arith)
 
-found-or : (n : ℕ) (m : Moment) (on : Moment → Outcome) → ((e : Moment) → on e .found ≡ true → isFound (on e .last .state) ≡ true)
-    → foundOr n m on .found ≡ true → isFound (foundOr n m on .last .state) ≡ true
-found-or n m on next = by-cases (isFound (m .state)) (λ q. rw q (λ h. q)) (λ q. rw q (next m))
+-- what holds of a walk that has found and of what follows one that has not
+pub found-or : (P : Outcome → Type 0) (n : ℕ) (m : Moment) (on : Moment → Outcome) → (isFound (m .state) ≡ true → P (record { found = true; walks = n; last = m }))
+    → (isFound (m .state) ≡ false → P (on m)) → P (foundOr n m on)
+found-or P n m on here next = by-cases (isFound (m .state)) (λ q. rw q (here q)) (λ q. rw q (next q))
 
 -- found means that no clause is uncovered
 pub found-is : (o : Order) (k n : ℕ) (m : Moment) → walksFrom o k n m .found ≡ true → isFound (walksFrom o k n m .last .state) ≡ true
 unfolding walksFrom
-found-is o zero n m h = absurd (false≢true h)
-found-is o (suc k) n m h = found-or (suc n) (onwards o (o .flips) (start m)) (λ e. walksFrom o k (suc n) e) (λ e. found-is o k (suc n) e) h
+found-is o zero n m = λ h. absurd (false≢true h)
+found-is o (suc k) n m =
+    found-or (λ e. e .found ≡ true → isFound (e .last .state) ≡ true) (suc n) (onwards o (o .flips) (start m)) (λ e. walksFrom o k (suc n) e) (λ q h. q)
+    (λ q. found-is o k (suc n) (onwards o (o .flips) (start m)))
 
--- at most the walks asked for are begun, and at most that many times the flips made
-walks-or : (n b : ℕ) (m : Moment) (on : Moment → Outcome) → n ≤ b → (on m .walks ≤ b) → foundOr n m on .walks ≤ b
-walks-or n b m on h next = by-cases (isFound (m .state)) (λ q. rw q h) (λ q. rw q next)
+none-left : (us : List ℕ) → length us ≡ 0 → us ≡ []
+none-left [] h = refl
+none-left (u ∷ us) h = absurd (omega arith)
 
+pub found-covers : (o : Order) (f : File) → walkOver o f .found ≡ true → walkOver o f .last .state .uncovered ≡ []
+unfolding walkOver isFound
+found-covers o f h = none-left _ (eq-of _ 0 (found-is o (o .walks) 0 (begun o f) h))
+
+-- at most the walks asked for are begun
 pub walks-bound : (o : Order) (k n : ℕ) (m : Moment) → walksFrom o k n m .walks ≤ n + k
 unfolding walksFrom
 walks-bound o zero n m = omega arith
 walks-bound o (suc k) n m =
     let e = onwards o (o .flips) (start m) in
-    let h = walks-bound o k (suc n) e in
-    walks-or (suc n) (n + suc k) e (λ e. walksFrom o k (suc n) e) (omega arith) (omega arith)
+    found-or (λ e. e .walks ≤ n + suc k) (suc n) e (λ e. walksFrom o k (suc n) e) (λ q. omega arith)
+    (λ q. let h = walks-bound o k (suc n) e in omega arith)
+
+pub walks-most : (o : Order) (f : File) → walkOver o f .walks ≤ o .walks
+unfolding walkOver
+walks-most o f = let h = walks-bound o (o .walks) 0 (begun o f) in omega arith
+
+-- walks are given up when all of them have been begun
+pub gave-up : (o : Order) (k n : ℕ) (m : Moment) → walksFrom o k n m .found ≡ false → walksFrom o k n m .walks ≡ n + k
+unfolding walksFrom
+gave-up o zero n m = λ h. omega arith
+gave-up o (suc k) n m =
+    let e = onwards o (o .flips) (start m) in
+    found-or (λ e. e .found ≡ false → e .walks ≡ n + suc k) (suc n) e (λ e. walksFrom o k (suc n) e) (λ q h. absurd (false≢true (sym h)))
+    (λ q h. let w = gave-up o k (suc n) e h in omega arith)
+
+pub gave-up-walks : (o : Order) (f : File) → walkOver o f .found ≡ false → walkOver o f .walks ≡ o .walks
+unfolding walkOver
+gave-up-walks o f h = omega (arith, gave-up o (o .walks) 0 (begun o f) h)
+
+-- and then a clause is still uncovered
+missed : (o : Order) (k n : ℕ) (m : Moment) → (k ≡ 0 → isFound (m .state) ≡ false) → walksFrom o k n m .found ≡ false
+    → isFound (walksFrom o k n m .last .state) ≡ false
+unfolding walksFrom
+missed o zero n m p = λ h. p refl
+missed o (suc k) n m p =
+    let e = onwards o (o .flips) (start m) in
+    found-or (λ e. e .found ≡ false → isFound (e .last .state) ≡ false) (suc n) e (λ e. walksFrom o k (suc n) e) (λ q h. absurd (false≢true (sym h)))
+    (λ q. missed o k (suc n) e (λ z. q))
+
+pub gave-up-misses : (o : Order) (f : File) → 0 < o .walks → walkOver o f .found ≡ false → isFound (walkOver o f .last .state) ≡ false
+unfolding walkOver
+gave-up-misses o f h = missed o (o .walks) 0 (begun o f) (λ z. absurd (omega arith))
+
+-- and at most that many times the flips of a walk are made
+start-flips : (m : Moment) → start m .flips ≡ m .flips
+unfolding start
+start-flips m = refl
+
+pub flips-bound : (o : Order) (k n : ℕ) (m : Moment) → walksFrom o k n m .last .flips ≤ k * o .flips + m .flips
+unfolding walksFrom
+flips-bound o zero n m = omega arith
+flips-bound o (suc k) n m =
+    let e = onwards o (o .flips) (start m) in
+    let one = onwards-flips o (o .flips) (start m) in
+    let same = start-flips m in
+    found-or (λ e. e .last .flips ≤ suc k * o .flips + m .flips) (suc n) e (λ e. walksFrom o k (suc n) e) (λ q. omega arith)
+    (λ q. let h = flips-bound o k (suc n) e in omega arith)
+
+pub flips-most : (o : Order) (f : File) → walkOver o f .last .flips ≤ o .flips * o .walks
+unfolding walkOver
+flips-most o f = rw (mul-comm (o .flips) (o .walks)) (let h = flips-bound o (o .walks) 0 (begun o f) in omega arith)

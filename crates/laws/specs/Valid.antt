@@ -24,6 +24,10 @@ pub record Proper (lim : Limits) (f : File) : Type 0 where
   pub names-differ : differ (f .names) ≡ true
   pub clauses-valid : all (isClause (length (f .names))) (f .clauses) ≡ true
 
+-- values are 0 and 1
+abbrev pub Bits : List ℕ → Type 0
+Bits vs = all (λ v. ltb v 2) vs ≡ true
+
 -- the list holds what stands uncovered at the values: each such clause once, in any order, and no other
 pub record Listed (s : State) : Type 0 where
   pub same-times : (c : ℕ) → times c (s .uncovered) ≡ times c (uncoveredIn (s .values) (s .file .clauses))
@@ -32,5 +36,5 @@ pub record Listed (s : State) : Type 0 where
 pub record Valid (lim : Limits) (s : State) : Type 0 where
   pub proper : Proper lim (s .file)
   pub one-each : length (s .values) ≡ length (s .file .names)
-  pub bits : all (λ v. ltb v 2) (s .values) ≡ true
+  pub bits : Bits (s .values)
   pub listed : Listed s

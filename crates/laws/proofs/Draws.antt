@@ -1,0 +1,103 @@
+-- What a draw keeps of the generator's state, every start and step of a walk keep: from a seed that is not 0 no walk comes to the state 0.
+-- Assumes nothing.
+use Prim.Native.Nat.{ℕ, zero, suc, _^_, _<_}
+use mathlib.Core.Bool.{Bool, true, false, cond, _||_}
+use mathlib.Core.List.{List, [], _∷_}
+use lib.ListN.{length}
+use lib.Dec.{eqb, ltb}
+use Rattle.draw.specs.Xorshift.{nextOf}
+use Rattle.draw.specs.Draw.{choiceOf, headsOf}
+use Rattle.draw.specs.declared.Drawn.{Drawn}
+use Rattle.draw.proofs.Laws.{next-pos, next-fits}
+use Rattle.words.specs.Words.{stateAfter, wordCount}
+use Rattle.written.specs.declared.Order.{Order}
+use Rattle.written.specs.Clauses.{File, State}
+use Rattle.written.specs.Drawing.{Pick, choice, heads, chosenFrom, startState}
+use Rattle.written.specs.Walk.{Moment, start, step, onwards, leastBreak, atLeast, oneOf, afterHeads, literalIn, flipPicked, inClause, walksFrom, walkOver}
+use Rattle.laws.proofs.Basics.{by-test}
+use Rattle.laws.proofs.Walks.{begun}
+use Rattle.laws.proofs.Endings.{onwards-keeps, walks-keep}
+
+-- what every draw keeps, a choice, heads, the picked literal, a step, a start and the walks keep
+module _ (P : ℕ → Type 0) (next : (y : ℕ) → P y → P (nextOf y)) where
+  pub choice-keeps : (m y : ℕ) → P y → P (choiceOf m y .next .state)
+  unfolding choiceOf
+  choice-keeps m y h = by-test (λ (d : Drawn). P (d .next .state)) (eqb y 0 || eqb m 0) (λ _. h) (λ _. next y h)
+
+  pub heads-keeps : (bias y : ℕ) → P y → P (headsOf bias y .next .state)
+  unfolding headsOf
+  heads-keeps bias y h = by-test (λ (d : Drawn). P (d .next .state)) (eqb y 0 || ltb 1000 bias) (λ _. h) (λ _. next y h)
+
+  pub from-keeps : (o : Order) (xs : List ℕ) (y : ℕ) → P y → P (chosenFrom o xs y .state)
+  unfolding chosenFrom choice
+  from-keeps o xs y h = choice-keeps (length xs) y h
+
+  pub one-keeps : (o : Order) (xs : List ℕ) (y : ℕ) → P y → P (oneOf o xs y .state)
+  unfolding oneOf
+  one-keeps o [] y h = h
+  one-keeps o (l ∷ []) y h = h
+  one-keeps o (l ∷ k ∷ ls) y h = from-keeps o (l ∷ k ∷ ls) y h
+
+  pub literal-keeps : (o : Order) (s : State) (ls : List ℕ) (y : ℕ) → P y → P (literalIn o s ls y .state)
+  unfolding literalIn afterHeads heads
+  literal-keeps o s ls y h =
+      let ties : List ℕ = atLeast s (leastBreak s ls) ls in
+      let d : Drawn = headsOf (o .bias) y in
+      let k : P (d .next .state) = heads-keeps (o .bias) y h in
+      by-test (λ (p : Pick). P (p .state)) (ltb 0 (leastBreak s ls))
+      (λ _. by-test (λ (p : Pick). P (p .state)) (eqb (d .number) 1) (λ _. from-keeps o ls (d .next .state) k) (λ _. one-keeps o ties (d .next .state) k))
+      (λ _. one-keeps o ties y h)
+
+  pub step-keeps : (o : Order) (m : Moment) → P (m .generator) → P (step o m .generator)
+  unfolding step inClause flipPicked
+  step-keeps o m h = literal-keeps o (m .state) _ _ (from-keeps o (m .state .uncovered) (m .generator) h)
+
+  pub after-keeps : (y k : ℕ) → P y → P (stateAfter y k)
+  unfolding stateAfter
+  after-keeps y zero h = h
+  after-keeps y (suc k) h = next _ (after-keeps y k h)
+
+  pub start-keeps : (m : Moment) → P (m .generator) → P (start m .generator)
+  unfolding start startState
+  start-keeps m h = after-keeps (m .generator) (wordCount (length (m .state .file .names))) h
+
+  pub end-keeps : (o : Order) (f : File) → P (o .seed) → P (walkOver o f .last .generator)
+  unfolding walkOver
+  end-keeps o f h = walks-keep (λ m. P (m .generator)) o (λ m q k. step-keeps o m k) start-keeps (o .walks) 0 (begun o f) h
+
+-- ---- the state is not 0: each move of a walk from such a state leaves one
+
+pub choice-pos : (m y : ℕ) → 0 < y → 0 < choiceOf m y .next .state
+choice-pos = choice-keeps (λ y. 0 < y) next-pos
+
+pub heads-pos : (bias y : ℕ) → 0 < y → 0 < headsOf bias y .next .state
+heads-pos = heads-keeps (λ y. 0 < y) next-pos
+
+pub one-pos : (o : Order) (xs : List ℕ) (y : ℕ) → 0 < y → 0 < oneOf o xs y .state
+one-pos = one-keeps (λ y. 0 < y) next-pos
+
+pub literal-pos : (o : Order) (s : State) (ls : List ℕ) (y : ℕ) → 0 < y → 0 < literalIn o s ls y .state
+literal-pos = literal-keeps (λ y. 0 < y) next-pos
+
+pub step-pos : (o : Order) (m : Moment) → 0 < m .generator → 0 < step o m .generator
+step-pos = step-keeps (λ y. 0 < y) next-pos
+
+pub after-pos : (y k : ℕ) → 0 < y → 0 < stateAfter y k
+after-pos = after-keeps (λ y. 0 < y) next-pos
+
+pub start-pos : (m : Moment) → 0 < m .generator → 0 < start m .generator
+start-pos = start-keeps (λ y. 0 < y) next-pos
+
+pub onwards-pos : (o : Order) (k : ℕ) (m : Moment) → 0 < m .generator → 0 < onwards o k m .generator
+onwards-pos o = onwards-keeps (λ m. 0 < m .generator) o (λ m q h. step-pos o m h)
+
+pub walks-pos : (o : Order) (k n : ℕ) (m : Moment) → 0 < m .generator → 0 < walksFrom o k n m .last .generator
+walks-pos o = walks-keep (λ m. 0 < m .generator) o (λ m q h. step-pos o m h) start-pos
+
+-- from a seed that is not 0 the walks end at a state that is not 0
+pub end-pos : (o : Order) (f : File) → 0 < o .seed → 0 < walkOver o f .last .generator
+end-pos = end-keeps (λ y. 0 < y) next-pos
+
+-- and the state of 32 bits stays one
+pub end-fits : (o : Order) (f : File) → o .seed < 2 ^ 32 → walkOver o f .last .generator < 2 ^ 32
+end-fits = end-keeps (λ y. y < 2 ^ 32) next-fits

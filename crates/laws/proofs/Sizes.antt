@@ -1,0 +1,110 @@
+-- How many entries of each table a valid state has in use, and that they are within the full sizes. Assumes nothing.
+use Prim.Native.Nat.{ℕ, _+_, _*_, _≤_}
+use mathlib.Core.Path.{_≡_, refl, ap, sym, _∙_}
+use mathlib.Core.Bool.{true, cond}
+use mathlib.Core.List.{List, [], map, flatten}
+use native.Mathlib.Omega.{arith}
+use lib.ListN.{length, getD, length-map}
+use lib.Dec.{ltb}
+use Rattle.words.specs.Words.{wordCount}
+use Rattle.written.specs.declared.Counts.{Counts}
+use Rattle.written.specs.Lists.{total, all, listOf, below, has, times, differ}
+use Rattle.written.specs.Limits.{Limits}
+use Rattle.written.specs.Clauses.{State, termOf, occurrencesOf}
+use Rattle.written.specs.Tables.{sizes, fullSizes, countsOf, inUse, turnedRound, wordsOf}
+use Rattle.laws.specs.Valid.{isClause, Valid}
+use Rattle.laws.proofs.Basics.{both-first, both-second}
+use Rattle.laws.proofs.Lists.{listFrom-length}
+use Rattle.laws.proofs.Sums.{total-by, total-swap, total-listFrom}
+use Rattle.laws.proofs.All.{all-getD}
+use Rattle.laws.proofs.Membership.{differ-map}
+use Rattle.laws.proofs.Times.{where-length, times-below, differ-times}
+use Rattle.laws.proofs.Each.{Table, at}
+use Rattle.laws.proofs.Each.Table.{Names, Values, Starts, Literals, OccurrenceStarts, Occurrences, Trues, Breaks, Uncovered, Places}
+use Rattle.laws.proofs.Parts.{starts-length, flatten-length}
+use Rattle.laws.proofs.Counted.{listed-length, uncovered-few}
+
+-- ---- what a clause is
+
+module _ (n : ℕ) (ls : List ℕ) (h : isClause n ls ≡ true) where
+  pub clause-some : ltb 0 (length ls) ≡ true
+  unfolding isClause
+  clause-some = search (both-first, both-second)
+
+  pub clause-below : all (λ l. ltb l (2 * n)) ls ≡ true
+  unfolding isClause
+  clause-below = search (both-first, both-second)
+
+  pub clause-differs : differ (map termOf ls) ≡ true
+  unfolding isClause
+  clause-differs = search (both-first, both-second)
+
+-- ---- the literals turned round are as many
+
+-- each literal of a clause is one of those below 2n, once
+once-each : (n : ℕ) (ls : List ℕ) → isClause n ls ≡ true → total (λ l. cond (has l ls) 1 0) (below (2 * n)) ≡ length ls
+once-each n ls h =
+    total-by (λ l. cond (has l ls) 1 0) (λ l. times l ls) (below (2 * n)) 0
+    (λ k l. sym (differ-times (getD (below (2 * n)) k 0) ls (differ-map termOf ls (clause-differs n ls h))))
+    ∙ times-below (2 * n) ls (clause-below n ls h)
+
+pub turned-length : (n : ℕ) (cs : List (List ℕ)) → all (isClause n) cs ≡ true → length (flatten (listOf (2 * n) (occurrencesOf cs))) ≡ total length cs
+unfolding occurrencesOf
+turned-length n cs h =
+    flatten-length (listOf (2 * n) (occurrencesOf cs)) ∙ total-listFrom length (occurrencesOf cs) 0 (2 * n)
+    ∙ total-by (λ l. length (occurrencesOf cs l)) (λ l. total (λ ls. cond (has l ls) 1 0) cs) (below (2 * n)) 0
+    (λ k l. where-length 0 (has (getD (below (2 * n)) k 0)) cs)
+    ∙ total-swap (λ l ls. cond (has l ls) 1 0) (below (2 * n)) cs
+    ∙ total-by (λ ls. total (λ l. cond (has l ls) 1 0) (below (2 * n))) length cs []
+    (λ k l. once-each n (getD cs k []) (all-getD (isClause n) cs k [] l h))
+
+-- ---- entries in use
+
+pub words-length : (vs : List ℕ) → length (wordsOf vs) ≡ wordCount (length vs)
+unfolding wordsOf
+words-length vs = listFrom-length 0 (wordCount (length vs)) _
+
+pub in-use : (lim : Limits) (s : State) → Valid lim s → (k : Table) → length (at k (inUse s)) ≡ at k (sizes (countsOf s))
+unfolding inUse sizes countsOf turnedRound
+in-use lim s v Names = refl
+in-use lim s v Values = words-length (s .values) ∙ ap wordCount (v .one-each)
+in-use lim s v Starts = starts-length 0 (s .file .clauses)
+in-use lim s v Literals = flatten-length (s .file .clauses)
+in-use lim s v OccurrenceStarts = starts-length 0 _ ∙ ap (λ n. n + 1) (listFrom-length 0 (2 * length (s .file .names)) (occurrencesOf (s .file .clauses)))
+in-use lim s v Occurrences = turned-length (length (s .file .names)) (s .file .clauses) (v .proper .clauses-valid)
+in-use lim s v Trues = length-map (s .file .clauses) _
+in-use lim s v Breaks = listFrom-length 0 (length (s .file .names)) _
+in-use lim s v Uncovered = refl
+in-use lim s v Places = listFrom-length 0 (length (s .file .clauses)) _
+
+-- ---- within the limits
+
+-- counts within their limits
+pub record Fit (lim : Limits) (n : Counts) : Type 0 where
+  pub terms : n .terms ≤ lim .terms
+  pub clauses : n .clauses ≤ lim .clauses
+  pub literals : n .literals ≤ lim .literals
+  pub uncovered : n .uncovered ≤ lim .clauses
+
+pub valid-fit : (lim : Limits) (s : State) → Valid lim s → Fit lim (countsOf s)
+unfolding countsOf
+valid-fit lim s v =
+    record {
+      terms = v .proper .few-terms;
+      clauses = v .proper .few-clauses;
+      literals = v .proper .few-literals;
+      uncovered = omega (arith, listed-length s (v .listed), uncovered-few (s .values) (s .file .clauses), v .proper .few-clauses);
+    }
+
+pub sizes-fit : (lim : Limits) (n : Counts) → Fit lim n → (k : Table) → at k (sizes n) ≤ at k (fullSizes lim)
+unfolding sizes fullSizes wordCount
+sizes-fit lim n f Names = omega arith
+sizes-fit lim n f Values = omega arith
+sizes-fit lim n f Starts = omega arith
+sizes-fit lim n f Literals = omega arith
+sizes-fit lim n f OccurrenceStarts = omega arith
+sizes-fit lim n f Occurrences = omega arith
+sizes-fit lim n f Trues = omega arith
+sizes-fit lim n f Breaks = omega arith
+sizes-fit lim n f Uncovered = omega arith
+sizes-fit lim n f Places = omega arith
