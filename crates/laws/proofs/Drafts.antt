@@ -19,7 +19,8 @@ use Rattle.laws.specs.Valid.{isClause, Proper}
 use Rattle.laws.proofs.Sums.{total-append}
 use Rattle.laws.proofs.All.{all-snoc, all-implied}
 use Rattle.laws.proofs.Membership.{differ-snoc}
-use Rattle.laws.proofs.Known.{term-of-literal, literal-below, new-term, known-longer, known-place, known-few, known-all, known-differ, below-more, clause-more}
+use Rattle.laws.proofs.Literals.{term-of-literal, literal-below, new-term}
+use Rattle.laws.proofs.Known.{known-longer, known-place, known-few, known-all, known-differ, below-more, clause-more}
 use Rattle.laws.proofs.Tokens.{wellNamed}
 use Rattle.laws.proofs.Turns.{Room, Keeps}
 

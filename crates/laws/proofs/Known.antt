@@ -1,48 +1,19 @@
--- Literals of terms, names of which one more may be known, and clauses over more terms. Assumes nothing.
+-- Names of which one more may be known, and clauses over more terms. Assumes nothing.
 use Prim.Native.Nat.{ℕ, _*_, _≤_, _<_}
-use mathlib.Core.Path.{_≡_, refl}
+use mathlib.Core.Path.{_≡_}
 use mathlib.Core.Bool.{Bool, true, false, not, _&&_}
 use mathlib.Core.List.{List, [], _∷_, map}
 use native.Mathlib.Omega.{arith}
-use borrow.Author.Tests.{ltb-true, lt-ltb, leb-false, eqb-false, ne-eqb}
+use borrow.Author.Tests.{ltb-true, lt-ltb, leb-false}
 use lib.ListN.{length, length-append}
-use lib.Dec.{eqb, ltb, leb}
+use lib.Dec.{ltb, leb}
 use Rattle.written.specs.Lists.{all, has, placeOf, differ}
-use Rattle.written.specs.Clauses.{literalOf, termOf}
+use Rattle.written.specs.Clauses.{termOf}
 use Rattle.written.specs.Reading.{known}
 use Rattle.laws.specs.Valid.{isClause}
-use Rattle.laws.proofs.Basics.{by-cases, both-first, both-second, neither-first, neither-second}
+use Rattle.laws.proofs.Basics.{by-cases, both-first, both-second}
 use Rattle.laws.proofs.All.{all-snoc, all-implied}
 use Rattle.laws.proofs.Membership.{differ-snoc, placeOf-lt, placeOf-none}
-
--- ---- terms and their literals
-
-pub term-of-literal : (k : ℕ) (b : Bool) → termOf (literalOf k b) ≡ k
-unfolding termOf literalOf
-term-of-literal k true = omega arith
-term-of-literal k false = omega arith
-
-pub literal-below : (k n : ℕ) (b : Bool) → k < n → literalOf k b < 2 * n
-unfolding literalOf
-literal-below k n true h = omega arith
-literal-below k n false h = omega arith
-
--- a literal that is neither of a term's two is not the term's
-pub other-term : (k x : ℕ) (b : Bool) → (literalOf k b ≡ x → ⊥) → (literalOf k (not b) ≡ x → ⊥) → k ≡ termOf x → ⊥
-unfolding termOf literalOf
-other-term k x true n m e = omega arith
-other-term k x false n m e = omega arith
-
--- a line that has neither of a term's two literals has not the term
-pub new-term : (k : ℕ) (b : Bool) (ls : List ℕ) → has (literalOf k b) ls ≡ false → has (literalOf k (not b)) ls ≡ false → has k (map termOf ls) ≡ false
-new-term k b [] h g = refl
-new-term k b (l ∷ ls) h g =
-    let one = literalOf k b in
-    let two = literalOf k (not b) in
-    let not-one = eqb-false one l (neither-first (eqb one l) (has one ls) h) in
-    let not-two = eqb-false two l (neither-first (eqb two l) (has two ls) g) in
-    let rest = new-term k b ls (neither-second (eqb one l) (has one ls) h) (neither-second (eqb two l) (has two ls) g) in
-    rw (ne-eqb k (termOf l) (other-term k l b not-one not-two), rest)
 
 -- ---- names, one more of which may be known
 

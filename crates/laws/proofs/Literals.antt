@@ -1,7 +1,7 @@
--- What a turned term does to its literals, and to the clauses in which they stand. Assumes nothing.
+-- Terms and their literals, and what a turned term does to these and to the clauses in which they stand. Assumes nothing.
 use Prim.Native.Nat.{ℕ, suc, _+_, _-_, _*_, _/_, _%_, _≤_, _<_}
 use mathlib.Core.Path.{_≡_, refl, ap, sym, _∙_}
-use mathlib.Core.Bool.{Bool, true, false, not, _||_, false≢true}
+use mathlib.Core.Bool.{Bool, true, false, not, false≢true}
 use mathlib.Core.List.{List, [], _∷_, map}
 use native.Mathlib.Omega.{arith}
 use lib.ListN.{length, getD}
@@ -11,9 +11,39 @@ use Rattle.written.specs.Lists.{total, has, differ}
 use Rattle.written.specs.Clauses.{literalOf, termOf, valueOf, trueCount, isUncovered}
 use Rattle.written.specs.Flips.{turned, falseLiteral, trueLiteral}
 use Rattle.laws.proofs.Basics.{by-cases, both-first, both-second, neither-first, neither-second}
+use Rattle.laws.proofs.Membership.{has-map}
 use Rattle.laws.proofs.Turning.{turned-same, turned-other}
 
--- ---- literals
+-- ---- terms and their literals
+
+pub term-of-literal : (k : ℕ) (b : Bool) → termOf (literalOf k b) ≡ k
+unfolding termOf literalOf
+term-of-literal k true = omega arith
+term-of-literal k false = omega arith
+
+pub literal-below : (k n : ℕ) (b : Bool) → k < n → literalOf k b < 2 * n
+unfolding literalOf
+literal-below k n true h = omega arith
+literal-below k n false h = omega arith
+
+-- a literal that is neither of a term's two is not the term's
+pub other-term : (k x : ℕ) (b : Bool) → (literalOf k b ≡ x → ⊥) → (literalOf k (not b) ≡ x → ⊥) → k ≡ termOf x → ⊥
+unfolding termOf literalOf
+other-term k x true n m e = omega arith
+other-term k x false n m e = omega arith
+
+-- a line that has neither of a term's two literals has not the term
+pub new-term : (k : ℕ) (b : Bool) (ls : List ℕ) → has (literalOf k b) ls ≡ false → has (literalOf k (not b)) ls ≡ false → has k (map termOf ls) ≡ false
+new-term k b [] h g = refl
+new-term k b (l ∷ ls) h g =
+    let one = literalOf k b in
+    let two = literalOf k (not b) in
+    let not-one = eqb-false one l (neither-first (eqb one l) (has one ls) h) in
+    let not-two = eqb-false two l (neither-first (eqb two l) (has two ls) g) in
+    let rest = new-term k b ls (neither-second (eqb one l) (has one ls) h) (neither-second (eqb two l) (has two ls) g) in
+    rw (ne-eqb k (termOf l) (other-term k l b not-one not-two), rest)
+
+-- ---- the two literals of a term, by its value
 
 -- the literal of term t that is false, and the one that is true
 pub false-is : (vs : List ℕ) (t : ℕ) → getD vs t 0 < 2 → falseLiteral vs t ≡ 2 * t + getD vs t 0
@@ -86,17 +116,11 @@ covered-by vs l ls v e = ne-eqb (total (valueOf vs) ls) 0 (λ q. let k = has-tot
 -- a clause in which neither literal of t stands is without t
 pub without : (vs : List ℕ) (t : ℕ) (ls : List ℕ) → getD vs t 0 < 2 → has (falseLiteral vs t) ls ≡ false → has (trueLiteral vs t) ls ≡ false
     → has t (map termOf ls) ≡ false
-unfolding termOf
-without vs t [] b f g = refl
-without vs t (l ∷ ls) b f g =
-    let fl = falseLiteral vs t in
-    let tl = trueLiteral vs t in
-    let x = false-is vs t b in
-    let y = true-is vs t b in
-    let nf = eqb-false fl l (neither-first (eqb fl l) (has fl ls) f) in
-    let nt = eqb-false tl l (neither-first (eqb tl l) (has tl ls) g) in
-    let i = without vs t ls b (neither-second (eqb fl l) (has fl ls) f) (neither-second (eqb tl l) (has tl ls) g) in
-    rw (ne-eqb t (l / 2) (λ q. omega arith)) i
+unfolding falseLiteral trueLiteral
+without vs t ls b f g =
+    by-cases (eqb (getD vs t 0) 1)
+    (λ e. new-term t true ls (rw e at f) (rw (ne-eqb (getD vs t 0) 0 (λ q. let r = eqb-true (getD vs t 0) 1 e in omega arith)) at g))
+    (λ e. new-term t false ls (rw e at f) (rw (eq-eqb (getD vs t 0) 0 (let r = eqb-false (getD vs t 0) 1 e in omega arith)) at g))
 
 -- it keeps its true count as t turns
 pub count-kept : (vs : List ℕ) (t : ℕ) (ls : List ℕ) → has t (map termOf ls) ≡ false → trueCount (turned t vs) ls ≡ trueCount vs ls
@@ -114,13 +138,6 @@ unfolding isUncovered
 uncovered-kept vs t ls b f g = ap (λ (n : ℕ). eqb n 0) (count-kept vs t ls (without vs t ls b f g))
 
 -- a clause with one literal m of t changes its true count as m changes its value
-has-term : (l : ℕ) (ls : List ℕ) → has l ls ≡ true → has (termOf l) (map termOf ls) ≡ true
-has-term l [] h = absurd (false≢true h)
-has-term l (k ∷ ls) h =
-    by-cases (eqb l k)
-    (λ q. rw (eq-eqb (termOf l) (termOf k) (ap termOf (eqb-true l k q))))
-    (λ q. let i = has-term l ls (rw q at h) in by-cases (eqb (termOf l) (termOf k)) (λ r. rw r) (λ r. rw r i))
-
 pub count-changed : (vs : List ℕ) (t m : ℕ) (ls : List ℕ) → termOf m ≡ t → differ (map termOf ls) ≡ true → has m ls ≡ true
     → trueCount (turned t vs) ls + valueOf vs m ≡ trueCount vs ls + valueOf (turned t vs) m
 unfolding trueCount
@@ -138,7 +155,7 @@ count-changed vs t m (l ∷ ls) e d h =
     (λ q.
     let k = rw q at h in
     let i = count-changed vs t m ls e (both-second (not (has (termOf l) (map termOf ls))) (differ (map termOf ls)) d) k in
-    let v = value-other vs t l (λ r. false≢true (sym alone ∙ rw (r ∙ sym e) (has-term m ls k))) in
+    let v = value-other vs t l (λ r. false≢true (sym alone ∙ rw (r ∙ sym e) (has-map termOf m ls k))) in
     omega arith)
 
 -- with the literal that becomes true it has one more, with the one that becomes false one fewer
