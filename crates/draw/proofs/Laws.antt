@@ -4,7 +4,7 @@ use mathlib.Core.Path.{_≡_, refl, sym, ap, _∙_}
 use Prim.Native.Nat.{ℕ, zero, suc, _+_, _*_, _/_, _%_, _^_, _≤_, _<_}
 use native.Mathlib.Omega.{arith}
 use native.Mathlib.Nat.{mod-lt, lt-of-le-of-lt, div-le-self, div-add-mod', add-mul, mul-assoc, mul-comm, mul-add-mod-self-right, zero-lt-suc}
-use lib.Bits.{bitXor, bitAnd, xor-add-and, and-le-l, and-le-r, xor-lt}
+use lib.Bits.{bitXor, xor-add-and, and-le-l, and-le-r, xor-lt}
 use borrow.Author.Tests.{ne-eqb, le-ltb}
 use lib.Dec.{ltb, eqb·suc-zero}
 use mathlib.Core.Bool.{cond}

@@ -1,6 +1,6 @@
 -- Document 01, "Drawing and choosing": a draw, a choice and heads, each asked for alone. Assumes nothing.
 use Prim.Native.Nat.{ℕ, _%_}
-use mathlib.Core.Bool.{Bool, cond, _||_}
+use mathlib.Core.Bool.{cond, _||_}
 use lib.Dec.{eqb, ltb}
 use Rattle.draw.specs.declared.Drawn.{Drawn}
 use Rattle.draw.specs.Xorshift.{nextOf}

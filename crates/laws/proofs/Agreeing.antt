@@ -18,13 +18,13 @@ use Rattle.written.specs.Tables.{Tables, each, sizes, fullSizes, areFull, start
 use Rattle.written.specs.Agreement.{partOf, fileIn, stateIn, agree}
 use Rattle.laws.specs.Valid.{isClause, Listed, Valid}
 use Rattle.laws.proofs.Basics.{by-cases, eq-of}
-use Rattle.laws.proofs.Lists.{listFrom-length}
+use Rattle.laws.proofs.Lists.{listFrom-length, listOf-is, getD-listOf}
 use Rattle.laws.proofs.All.{all-getD, all-by, all-listFrom}
 use Rattle.laws.proofs.Each.{Table, at, by-each, each-at, every-at}
 use Rattle.laws.proofs.Each.Table.{Names, Values, Starts, Literals, OccurrenceStarts, Occurrences, Trues, Breaks, Uncovered, Places}
 use Rattle.laws.proofs.Padding.{over-taken, padded-taken}
 use Rattle.laws.proofs.Counted.{listed-by, listed-has}
-use Rattle.laws.proofs.Parts.{listOf-is, getD-listOf, flatten-length, part-length, up-to-last, parts-starts, parts-entries}
+use Rattle.laws.proofs.Parts.{flatten-length, part-length, up-to-last, parts-starts, parts-entries}
 use Rattle.laws.proofs.Sizes.{sizes-fit}
 use Rattle.laws.proofs.Holding.{full-at, tables-at, holding-at}
 use Rattle.laws.proofs.Points.{Points, agree-points}

@@ -3,26 +3,26 @@ use Prim.Native.Nat.{ℕ, suc, _+_, _-_, _*_, _<_}
 use mathlib.Core.Logic.{_↔_}
 use mathlib.Core.Path.{_≡_, refl, ap, sym, subst₂, _∙_}
 use mathlib.Core.Bool.{true, cond, _&&_}
-use mathlib.Core.List.{List, [], _++_, map}
+use mathlib.Core.List.{[], map}
 use native.Mathlib.Numerals.{add-one}
 use native.Mathlib.Omega.{arith}
 use lib.ListN.{length, getD, take, drop}
 use lib.Seq.{getD-take}
 use lib.Dec.{eqb, ltb}
 use borrow.Author.Tests.{ltb-true, eq-eqb}
-use Rattle.words.specs.Words.{bitAt}
 use Rattle.written.specs.declared.Counts.{Counts}
-use Rattle.written.specs.Lists.{all, listOf, has, placeOf, differ}
+use Rattle.written.specs.Lists.{all, has, placeOf, differ}
 use Rattle.written.specs.Limits.{Limits}
 use Rattle.written.specs.Clauses.{State, termOf}
-use Rattle.written.specs.Tables.{Tables, each, every, sizes, fullSizes, areFull, startsFrom, placeIn, wordsOf, inUse, tablesOf, countsOf, holding}
+use Rattle.written.specs.Tables.{Tables, each, every, sizes, fullSizes, areFull, startsFrom, placeIn, inUse, tablesOf, countsOf, holding}
 use Rattle.written.specs.Agreement.{stateIn, agree}
 use Rattle.laws.specs.Valid.{isClause, Valid}
 use Rattle.laws.proofs.Basics.{by-cases, both}
+use Rattle.laws.proofs.Lists.{getD-listOf}
 use Rattle.laws.proofs.All.{all-getD, all-by, all-zeros}
 use Rattle.laws.proofs.Each.{at, each-at, every-all}
 use Rattle.laws.proofs.Padding.{padded-drop}
-use Rattle.laws.proofs.Parts.{getD-listOf, starts-first, starts-step, starts-last}
+use Rattle.laws.proofs.Parts.{starts-first, starts-step, starts-last}
 use Rattle.laws.proofs.Counted.{listed-length, listed-has, listed-once, uncovered-below}
 use Rattle.laws.proofs.Sizes.{clause-some, clause-below, clause-differs, in-use, valid-fit}
 use Rattle.laws.proofs.Holding.{tables-at, holding-take, holding-used}
@@ -98,21 +98,20 @@ module _ (lim : Limits) (s : State) (t : Tables) (v : Valid lim s) where
             (λ e. rw e (eq-eqb (getD (inUse s .places) c 0) 0 (place-at c l ∙ (rw e refl))));
       }
 
-module _ (back : (vs rest : List ℕ) → all (λ v. ltb v 2) vs ≡ true → listOf (length vs) (bitAt (wordsOf vs ++ rest)) ≡ vs) where
-  -- what is written agrees
-  pub holding-agrees : (lim : Limits) (s : State) (t : Tables) → Valid lim s → agree lim (countsOf s) (holding lim s t) ≡ true
-  holding-agrees lim s t v =
-      points-agree lim (countsOf s) (holding lim s t)
-      (subst₂ (λ r u. Points lim (countsOf s) (holding lim s t) r u) (sym (holding-back back lim s t v)) (sym (holding-used lim s t v)) (points lim s t v))
+-- what is written agrees
+pub holding-agrees : (lim : Limits) (s : State) (t : Tables) → Valid lim s → agree lim (countsOf s) (holding lim s t) ≡ true
+holding-agrees lim s t v =
+    points-agree lim (countsOf s) (holding lim s t)
+    (subst₂ (λ r u. Points lim (countsOf s) (holding lim s t) r u) (sym (holding-back lim s t v)) (sym (holding-used lim s t v)) (points lim s t v))
 
-  -- the state that stands alone in tables is the one that they hold
-  pub held-is : (lim : Limits) (s : State) (n : Counts) (t : Tables) → Valid lim s → countsOf s ≡ n → holding lim s t ≡ t → stateIn n t ≡ s
-  held-is lim s n t v e h = rw (← e, ← h) (holding-back back lim s t v)
+-- the state that stands alone in tables is the one that they hold
+pub held-is : (lim : Limits) (s : State) (n : Counts) (t : Tables) → Valid lim s → countsOf s ≡ n → holding lim s t ≡ t → stateIn n t ≡ s
+held-is lim s n t v e h = rw (← e, ← h) (holding-back lim s t v)
 
-  -- full tables agree exactly where some valid state stands alone in them
-  pub agree-exactly : (lim : Limits) (n : Counts) (t : Tables) → areFull lim t ≡ true
-      → (agree lim n t ≡ true) ↔ ((s : State) × Valid lim s × (countsOf s ≡ n) × (holding lim s t ≡ t))
-  agree-exactly lim n t full = (
-    λ h. (stateIn n t, agree-valid lim n t h full, agree-counts lim n t h full, agree-holding lim n t h full),
-    λ a. subst₂ (λ m u. agree lim m u ≡ true) (a .2) (a .3) (holding-agrees lim (a .0) t (a .1)),
-  )
+-- full tables agree exactly where some valid state stands alone in them
+pub agree-exactly : (lim : Limits) (n : Counts) (t : Tables) → areFull lim t ≡ true
+    → (agree lim n t ≡ true) ↔ ((s : State) × Valid lim s × (countsOf s ≡ n) × (holding lim s t ≡ t))
+agree-exactly lim n t full = (
+  λ h. (stateIn n t, agree-valid lim n t h full, agree-counts lim n t h full, agree-holding lim n t h full),
+  λ a. subst₂ (λ m u. agree lim m u ≡ true) (a .2) (a .3) (holding-agrees lim (a .0) t (a .1)),
+)

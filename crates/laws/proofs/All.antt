@@ -4,7 +4,7 @@ use mathlib.Core.Path.{_≡_, refl, ap, sym, _∙_}
 use mathlib.Core.Bool.{Bool, true, _&&_, false≢true, and-assoc}
 use mathlib.Core.List.{List, [], _∷_, _++_}
 use native.Mathlib.Omega.{arith}
-use lib.ListN.{length, getD, set}
+use lib.ListN.{length, getD, set, take, drop}
 use lib.Dec.{eqb}
 use Rattle.written.specs.Lists.{all, below, has, listFrom, same, zeros}
 use borrow.Author.Tests.{eq-eqb}
@@ -30,6 +30,17 @@ pub all-set : {A : Type 0} (p : A → Bool) (xs : List A) (k : ℕ) (y : A) → 
 all-set p [] k y h e = refl
 all-set p (x ∷ xs) zero y h e = both (p y) (all p xs) e (both-second (p x) (all p xs) h)
 all-set p (x ∷ xs) (suc k) y h e = both (p x) (all p (set xs k y)) (both-first (p x) (all p xs) h) (all-set p xs k y (both-second (p x) (all p xs) h) e)
+
+-- of the first entries, and of those after them
+pub all-take : {A : Type 0} (p : A → Bool) (n : ℕ) (xs : List A) → all p xs ≡ true → all p (take n xs) ≡ true
+all-take p zero xs h = refl
+all-take p (suc n) [] h = refl
+all-take p (suc n) (x ∷ xs) h = both (p x) (all p (take n xs)) (both-first (p x) (all p xs) h) (all-take p n xs (both-second (p x) (all p xs) h))
+
+pub all-drop : {A : Type 0} (p : A → Bool) (n : ℕ) (xs : List A) → all p xs ≡ true → all p (drop n xs) ≡ true
+all-drop p zero xs h = h
+all-drop p (suc n) [] h = refl
+all-drop p (suc n) (x ∷ xs) h = all-drop p n xs (both-second (p x) (all p xs) h)
 
 -- at each place
 pub all-getD : {A : Type 0} (p : A → Bool) (xs : List A) (k : ℕ) (d : A) → k < length xs → all p xs ≡ true → p (getD xs k d) ≡ true

@@ -1,12 +1,10 @@
 -- Cases and tests: what every other law leans on. Assumes nothing.
-use Prim.Native.Nat.{ℕ, zero, suc, _+_, _-_, _*_, _≤_, _<_}
-use mathlib.Core.Path.{_≡_, refl, ap, ap₂, sym, subst, _∙_}
+use Prim.Native.Nat.{ℕ, _-_}
+use mathlib.Core.Path.{_≡_, refl, ap₂, sym, subst}
 use mathlib.Core.Bool.{Bool, true, false, cond, _&&_, _||_, false≢true, true≢false}
-use mathlib.Core.List.{List, [], _∷_, _++_}
-use native.Mathlib.Omega.{arith}
-use lib.ListN.{length, getD, set}
-use lib.Dec.{eqb, ltb, leb, eqb→eq, T}
-use Rattle.written.specs.Lists.{total, all, same}
+use mathlib.Core.List.{List, [], _∷_}
+use lib.Dec.{eqb, eqb→eq, T}
+use Rattle.written.specs.Lists.{same}
 
 -- the two cases of a test
 pub by-cases : {A : Type 0} (b : Bool) → (b ≡ true → A) → (b ≡ false → A) → A

@@ -1,26 +1,25 @@
 -- What stands at the end of walks: whatever a start and a step keep. The file stays, and each term has a value of 0 or 1. Assumes nothing.
 use Prim.Native.Nat.{ℕ, zero, suc, _-_, _≤_}
 use mathlib.Core.Path.{_≡_, refl, ap, _∙_}
-use mathlib.Core.Bool.{Bool, true, false}
+use mathlib.Core.Bool.{false}
 use mathlib.Core.List.{List, [], _∷_}
 use native.Mathlib.Omega.{arith}
-use lib.ListN.{length, getD, set, length-replicate, length-set}
+use lib.ListN.{length, length-replicate, length-set}
 use lib.Dec.{ltb}
-use borrow.Author.Tests.{lt-ltb, ltb-true}
-use Rattle.words.specs.Words.{bitAt}
-use Rattle.words.proofs.Laws.{bit-lt}
+use borrow.Author.Tests.{ltb-true}
 use Rattle.written.specs.declared.Order.{Order}
-use Rattle.written.specs.Lists.{total, all, listFrom, zeros}
+use Rattle.written.specs.Lists.{total, all}
 use Rattle.written.specs.Clauses.{File, State, asRead, afresh}
 use Rattle.written.specs.Flips.{flip, turned}
 use Rattle.written.specs.Drawing.{startValues}
 use Rattle.written.specs.Walk.{Moment, start, step, onwards, isFound, flipPicked, inClause, walksFrom, walkOver}
 use Rattle.written.specs.Printed.{chosen}
-use Rattle.laws.proofs.Basics.{by-cases, both, both-first, both-second}
+use Rattle.laws.proofs.Basics.{by-cases, both-first, both-second}
 use Rattle.laws.proofs.Lists.{listFrom-length}
-use Rattle.laws.proofs.All.{all-listFrom, all-zeros}
+use Rattle.laws.proofs.All.{all-zeros}
 use Rattle.laws.specs.Valid.{Bits}
 use Rattle.laws.proofs.Turning.{turned-bits}
+use Rattle.laws.proofs.Starts.{start-bits as drawn-bits}
 use Rattle.laws.proofs.Walks.{begun, found-or}
 
 -- ---- what every start and every step keeps, holds at the end
@@ -77,13 +76,9 @@ end-values o f =
 
 -- ---- each 0 or 1
 
-pub startValues-bits : (n y : ℕ) → Bits (startValues n y)
-unfolding startValues bitAt
-startValues-bits n y = all-listFrom (λ v. ltb v 2) 0 n _ (λ k. lt-ltb _ 2 (bit-lt _ _))
-
 pub start-bits : (m : Moment) → Bits (start m .state .values)
 unfolding start afresh
-start-bits m = startValues-bits _ _
+start-bits m = drawn-bits _ _
 
 pub step-bits : (o : Order) (m : Moment) → Bits (m .state .values) → Bits (step o m .state .values)
 unfolding step inClause flipPicked flip

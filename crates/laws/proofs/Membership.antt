@@ -1,5 +1,5 @@
 -- What stands in a list and where, also in a list made longer at its end. Assumes nothing.
-use Prim.Native.Nat.{ℕ, zero, suc, _<_}
+use Prim.Native.Nat.{ℕ, suc, _<_}
 use mathlib.Core.Path.{_≡_, refl, ap, sym, _∙_}
 use mathlib.Core.Bool.{Bool, true, false, not, _||_, false≢true, or-assoc}
 use mathlib.Core.List.{List, [], _∷_, _++_, map}

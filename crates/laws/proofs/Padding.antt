@@ -1,11 +1,12 @@
 -- Lists filled up with 0 and written over others. Assumes nothing.
-use Prim.Native.Nat.{ℕ, zero, suc, _-_, _≤_}
+use Prim.Native.Nat.{ℕ, zero, suc, _+_, _-_, _≤_}
 use mathlib.Core.Path.{_≡_, refl, ap, ap₂, sym, _∙_}
 use mathlib.Core.Bool.{true}
 use mathlib.Core.List.{List, [], _∷_, _++_}
 use native.Mathlib.Omega.{arith}
-use lib.ListN.{length, take, drop, length-drop, take-append-drop}
-use lib.Seq.{length-take-le, take-all, take-take, take-at, drop-at}
+use native.Mathlib.Nat.{sub-zero, zero-sub, suc-sub-suc}
+use lib.ListN.{length, getD, take, drop, length-drop, take-append-drop}
+use lib.Seq.{getD-append-add, getD-drop, length-take-le, take-all, take-take, take-at, drop-at}
 use lib.Dec.{eqb}
 use Rattle.written.specs.Lists.{all, zeros, padded}
 use Rattle.written.specs.Tables.{over}
@@ -51,3 +52,23 @@ padded-drop m n xs h = drop-at xs (zeros (n - length xs)) m h
 
 pub padded-whole : (n : ℕ) (xs : List ℕ) → length xs ≤ n → take n (padded n xs) ≡ padded n xs
 padded-whole n xs h = let a = padded-length n xs h in take-all n (padded n xs) (omega arith)
+
+-- 0 past the end is 0 all the same
+pub getD-zeros : (xs : List ℕ) (n i : ℕ) → getD (xs ++ zeros n) i 0 ≡ getD xs i 0
+getD-zeros [] zero i = refl
+getD-zeros [] (suc n) zero = refl
+getD-zeros [] (suc n) (suc i) = getD-zeros [] n i
+getD-zeros (x ∷ xs) n zero = refl
+getD-zeros (x ∷ xs) n (suc i) = getD-zeros xs n i
+
+pub drop-zeros : (k n : ℕ) → drop k (zeros n) ≡ zeros (n - k)
+drop-zeros zero n = ap zeros (sym (sub-zero n))
+drop-zeros (suc k) zero = ap zeros (sym (zero-sub (suc k)))
+drop-zeros (suc k) (suc n) = drop-zeros k n ∙ ap zeros (sym (suc-sub-suc n k))
+
+-- past what is written the old entries stay
+pub over-past : (new old : List ℕ) (k : ℕ) → length new ≤ k → getD (over new old) k 0 ≡ getD old k 0
+over-past new old k h =
+    let e : k ≡ length new + (k - length new) = omega arith in
+    ap (λ (i : ℕ). getD (over new old) i 0) e ∙ getD-append-add new (drop (length new) old) (k - length new) 0
+    ∙ getD-drop (length new) old (k - length new) 0 ∙ ap (λ (i : ℕ). getD old i 0) (sym e)

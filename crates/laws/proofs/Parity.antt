@@ -1,15 +1,16 @@
 -- The values after a flip list, by how often it names each term. Assumes nothing.
 use Prim.Native.Nat.{ℕ, _+_, _-_, _%_, _<_}
 use mathlib.Core.Path.{_≡_, refl, ap, sym, _∙_}
-use mathlib.Core.Bool.{true, cond}
+use mathlib.Core.Bool.{cond}
 use mathlib.Core.List.{List, [], _∷_, _++_}
 use native.Mathlib.Omega.{arith}
 use lib.ListN.{length, getD}
 use lib.Seq.{ext-getD}
-use lib.Dec.{ltb, eqb}
-use Rattle.written.specs.Lists.{all, times, steps}
+use lib.Dec.{eqb}
+use Rattle.written.specs.Lists.{times, steps}
 use Rattle.written.specs.Clauses.{State}
 use Rattle.written.specs.Flips.{turned, flip, flipped}
+use Rattle.laws.specs.Valid.{Bits}
 use Rattle.laws.proofs.Sums.{total-append}
 use Rattle.laws.proofs.Flips.{flips-joined}
 use Rattle.laws.proofs.Turning.{bit-at, turns-length, turns-bits, turns-count}
@@ -23,8 +24,8 @@ flipped-values (t ∷ ts) s = flipped-values ts (flip t s)
 pub flipped-length : (ts : List ℕ) (s : State) → length (flipped ts s .values) ≡ length (s .values)
 flipped-length ts s = ap length (flipped-values ts s) ∙ turns-length ts (s .values)
 
-module _ (s : State) (bits : all (λ v. ltb v 2) (s .values) ≡ true) where
-  pub flipped-bits : (ts : List ℕ) → all (λ v. ltb v 2) (flipped ts s .values) ≡ true
+module _ (s : State) (bits : Bits (s .values)) where
+  pub flipped-bits : (ts : List ℕ) → Bits (flipped ts s .values)
   flipped-bits ts = rw (flipped-values ts s) (turns-bits ts (s .values) bits)
 
   -- each value counts how often its term was named

@@ -5,24 +5,11 @@ use mathlib.Core.List.{List, [], _∷_, _++_, flatten, append-assoc}
 use native.Mathlib.Numerals.{add-one}
 use native.Mathlib.Omega.{arith}
 use lib.ListN.{length, getD, take, drop, length-append, length-drop, List·getD-append}
-use lib.Seq.{drop-cons, length-take-le, take-append-seam, drop-append-add, take-add, drop-drop, ext-getD}
+use lib.Seq.{drop-cons, length-take-le, take-append-seam, drop-append-add, take-add, drop-drop}
 use Rattle.written.specs.Lists.{total, listFrom, listOf}
 use Rattle.written.specs.Tables.{startsFrom}
 use Rattle.written.specs.Agreement.{partOf}
-use Rattle.laws.proofs.Lists.{listFrom-length, listFrom-getD}
-
--- a list is made of its entries
-pub listOf-is : {A : Type 0} (n : ℕ) (f : ℕ → A) (xs : List A) (d : A) → length xs ≡ n → ((k : ℕ) → k < n → f k ≡ getD xs k d) → listOf n f ≡ xs
-listOf-is n f xs d e h =
-    let a = listFrom-length 0 n f in
-    ext-getD d (listOf n f) xs (omega arith)
-    (λ k l. let b : k < n = omega arith in let z : 0 + k ≡ k = omega arith in listFrom-getD 0 n k f d b ∙ ap f z ∙ h k b)
-
-pub listOf-getD : {A : Type 0} (xs : List A) (d : A) → listOf (length xs) (λ k. getD xs k d) ≡ xs
-listOf-getD xs d = listOf-is (length xs) (λ k. getD xs k d) xs d refl (λ k l. refl)
-
-pub getD-listOf : {A : Type 0} (n k : ℕ) (f : ℕ → A) (d : A) → k < n → getD (listOf n f) k d ≡ f k
-getD-listOf n k f d l = let z : 0 + k ≡ k = omega arith in listFrom-getD 0 n k f d l ∙ ap f z
+use Rattle.laws.proofs.Lists.{listOf-is}
 
 -- ---- lengths, and where parts begin
 

@@ -1,12 +1,10 @@
 -- What an accepted reading gives: a proper file, and a valid state at values of 0. Assumes nothing.
-use Prim.Native.Nat.{ℕ, zero, suc}
+use Prim.Native.Nat.{ℕ, suc}
 use mathlib.Core.Path.{_≡_, refl, subst}
-use mathlib.Core.Bool.{true}
 use mathlib.Core.List.{List}
 use lib.ListN.{length, length-replicate}
 use lib.Dec.{ltb}
 use Rattle.scan.specs.Scan.{scan, start, openEnd}
-use Rattle.written.specs.Lists.{all, zeros}
 use Rattle.written.specs.Limits.{Limits}
 use Rattle.written.specs.Clauses.{File, asRead, afresh}
 use Rattle.written.specs.Reading.{accepted, readText, nothing}

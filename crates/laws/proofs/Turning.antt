@@ -1,7 +1,6 @@
 -- The values after turns: a term has turned exactly if it was named an odd number of times. Assumes nothing.
 use Prim.Native.Nat.{ℕ, zero, suc, _+_, _-_, _%_, _≤_, _<_}
 use mathlib.Core.Path.{_≡_, refl, _∙_}
-use mathlib.Core.Bool.{Bool, true}
 use mathlib.Core.List.{List, [], _∷_}
 use native.Mathlib.Omega.{arith}
 use lib.ListN.{length, getD, length-set}
@@ -10,11 +9,12 @@ use lib.Dec.{eqb, ltb}
 use borrow.Author.Tests.{ltb-true, ltb-false, lt-ltb, eqb-true, eqb-false}
 use Rattle.written.specs.Lists.{all, those, times, steps}
 use Rattle.written.specs.Flips.{turned}
-use Rattle.laws.proofs.Basics.{by-cases, both, both-first, both-second, one-if, none-if}
+use Rattle.laws.specs.Valid.{Bits}
+use Rattle.laws.proofs.Basics.{by-cases, both-first, both-second, one-if, none-if}
 use Rattle.laws.proofs.All.{all-set}
 
 -- every value of a list of bits is 0 or 1
-pub bit-at : (vs : List ℕ) (t : ℕ) → all (λ v. ltb v 2) vs ≡ true → getD vs t 0 < 2
+pub bit-at : (vs : List ℕ) (t : ℕ) → Bits vs → getD vs t 0 < 2
 bit-at [] t h = omega arith
 bit-at (v ∷ vs) zero h = ltb-true v 2 (both-first (ltb v 2) (all (λ x. ltb x 2) vs) h)
 bit-at (v ∷ vs) (suc t) h = bit-at vs t (both-second (ltb v 2) (all (λ x. ltb x 2) vs) h)
@@ -25,7 +25,7 @@ pub turned-length : (t : ℕ) (vs : List ℕ) → length (turned t vs) ≡ lengt
 unfolding turned
 turned-length t vs = length-set vs t (1 - getD vs t 0)
 
-pub turned-bits : (t : ℕ) (vs : List ℕ) → all (λ v. ltb v 2) vs ≡ true → all (λ v. ltb v 2) (turned t vs) ≡ true
+pub turned-bits : (t : ℕ) (vs : List ℕ) → Bits vs → Bits (turned t vs)
 unfolding turned
 turned-bits t vs h = all-set (λ v. ltb v 2) vs t (1 - getD vs t 0) h (lt-ltb (1 - getD vs t 0) 2 (omega arith))
 
@@ -48,7 +48,7 @@ pub turns-length : (ts vs : List ℕ) → length (steps turned ts vs) ≡ length
 turns-length [] vs = refl
 turns-length (t ∷ ts) vs = turns-length ts (turned t vs) ∙ turned-length t vs
 
-pub turns-bits : (ts vs : List ℕ) → all (λ v. ltb v 2) vs ≡ true → all (λ v. ltb v 2) (steps turned ts vs) ≡ true
+pub turns-bits : (ts vs : List ℕ) → Bits vs → Bits (steps turned ts vs)
 turns-bits [] vs h = h
 turns-bits (t ∷ ts) vs h = turns-bits ts (turned t vs) (turned-bits t vs h)
 

@@ -1,25 +1,22 @@
 -- Words that have the same digits are the same, and so are tables of words that give every term the same value. Assumes nothing.
-use mathlib.Core.Path.{_≡_, refl, sym, ap, ap₂, _∙_, subst}
+use mathlib.Core.Path.{_≡_, sym, ap, ap₂, _∙_, subst}
 use mathlib.Core.List.{List}
-use Prim.Native.Nat.{ℕ, zero, suc, _+_, _-_, _*_, _/_, _%_, _^_, _≤_, _<_, suc-le-suc}
+use Prim.Native.Nat.{ℕ, zero, suc, _+_, _*_, _/_, _%_, _^_, _<_, suc-le-suc}
 use native.Mathlib.Omega.{arith}
 use native.Mathlib.Numerals.{one-add, add-one}
-use native.Mathlib.Nat.{div-add-mod', div-one, mod-lt, div-eq-of-lt, lt-of-lt-of-le, lt-of-le-of-lt, div-le-self, zero-lt-suc}
+use native.Mathlib.Nat.{div-add-mod', div-one, zero-lt-suc}
 use lib.ListN.{getD, length}
 use lib.Seq.{ext-getD}
-use native.Mathlib.Decide.{decLt}
-use lib.Dec.{lit<}
 use lib.Arith.{lt-one}
-use lib.Pow.{shr-shr, shr-lt, pow-pos, pow-mono}
+use lib.Pow.{shr-shr, shr-lt}
 use Rattle.words.specs.Words.{bitOf, bitAt}
-use Rattle.words.proofs.Laws.{by-cases}
 
 -- digit j of a half is digit j + 1
-half-bit : (w j : ℕ) → bitOf (w / 2) j ≡ bitOf w (suc j)
+pub half-bit : (w j : ℕ) → bitOf (w / 2) j ≡ bitOf w (suc j)
 unfolding bitOf
 half-bit w j = ap (λ (x : ℕ). x % 2) (shr-shr w 1 j ∙ ap (λ (x : ℕ). w / 2 ^ x) (one-add j))
 
-low-bit : (w : ℕ) → bitOf w 0 ≡ w % 2
+pub low-bit : (w : ℕ) → bitOf w 0 ≡ w % 2
 unfolding bitOf
 low-bit w = ap (λ (x : ℕ). x % 2) (div-one w)
 

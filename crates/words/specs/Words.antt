@@ -1,7 +1,6 @@
 -- The values of the terms lie in words of 32 bits, 32 terms to a word, low bit first. Assumes nothing.
 use mathlib.Core.List.{List}
-use mathlib.Core.Path.{_≡_}
-use Prim.Native.Nat.{ℕ, zero, suc, _+_, _-_, _*_, _/_, _%_, _^_, _≤_, _<_, min}
+use Prim.Native.Nat.{ℕ, zero, suc, _+_, _-_, _*_, _/_, _%_, _^_, min}
 use lib.ListN.{getD, set}
 use lib.Bits.{bitXor}
 use Rattle.draw.specs.Xorshift.{nextOf}
