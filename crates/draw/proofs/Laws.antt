@@ -10,7 +10,7 @@ use lib.Dec.{ltb, eqb·suc-zero}
 use mathlib.Core.Bool.{cond}
 use lib.Pow.{pow-pos}
 use Rattle.draw.specs.Xorshift.{leftStep, rightStep, nextOf}
-use Rattle.draw.specs.Draw.{drawOf, choiceOf, headsOf, given}
+use Rattle.draw.specs.Draw.{drawOf, choiceOf, headsOf, drawnTo}
 
 -- the exclusive or of two numbers that differ is above 0
 pub xor-pos : (a b : ℕ) → (a ≡ b → ⊥) → 0 < bitXor a b
@@ -68,15 +68,15 @@ draw-next (suc y) = simp (eqb·suc-zero y)
 
 -- ---- in range: what a walk uses, whose state is never 0 and whose choices are among 1 or more
 
-pub draw-given : (y : ℕ) → 0 < y → drawOf y ≡ given y (nextOf y)
+pub draw-given : (y : ℕ) → 0 < y → drawOf y ≡ drawnTo (nextOf y) (nextOf y)
 unfolding drawOf
 draw-given y h = simp (ne-eqb y 0 (λ e. omega arith))
 
-pub choice-given : (m y : ℕ) → 0 < y → 0 < m → choiceOf m y ≡ given y (nextOf y % m)
+pub choice-given : (m y : ℕ) → 0 < y → 0 < m → choiceOf m y ≡ drawnTo (nextOf y) (nextOf y % m)
 unfolding choiceOf
 choice-given m y h l = simp (ne-eqb y 0 (λ e. omega arith), ne-eqb m 0 (λ e. omega arith))
 
-pub heads-given : (bias y : ℕ) → 0 < y → bias ≤ 1000 → headsOf bias y ≡ given y (cond (ltb (nextOf y % 1000) bias) 1 0)
+pub heads-given : (bias y : ℕ) → 0 < y → bias ≤ 1000 → headsOf bias y ≡ drawnTo (nextOf y) (cond (ltb (nextOf y % 1000) bias) 1 0)
 unfolding headsOf
 heads-given bias y h l = simp (ne-eqb y 0 (λ e. omega arith), le-ltb 1000 bias l)
 

@@ -1,7 +1,7 @@
 // Drawing and choosing: a generator by value, whose methods hand back the number and the next state.
 ghost use mathlib.Core.Path.{_≡_};
 ghost use Rattle.draw.specs.Xorshift.{nextOf};
-ghost use Rattle.draw.specs.Draw.{drawOf, choiceOf, headsOf};
+ghost use Rattle.draw.specs.Draw.{refusedAt, drawnTo, drawOf, choiceOf, headsOf};
 
 pub struct Generator {
     pub state: u32,
@@ -23,6 +23,27 @@ pub fn stepped(y: u32) -> u32
     b ^ (b << 5)
 }
 
+fn refused(g: Generator) -> Drawn
+    ensures { λ r. ⌜ r ≡ refusedAt (g .state) ⌝ }
+{
+    Drawn {
+        reason: 11,
+        number: 0,
+        next: g,
+    }
+}
+
+// The number that the draw y gives; y is the next state.
+fn given(number: u32, y: u32) -> Drawn
+    ensures { λ r. ⌜ r ≡ drawnTo y number ⌝ }
+{
+    Drawn {
+        reason: 0,
+        number,
+        next: Generator { state: y },
+    }
+}
+
 impl Generator {
     pub fn new(seed: u32) -> Self
         ensures { λ r. ⌜ r .state ≡ seed ⌝ }
@@ -35,18 +56,10 @@ impl Generator {
     {
         let y = self.state;
         if y == 0 {
-            return Drawn {
-                reason: 11,
-                number: 0,
-                next: self,
-            };
+            return refused(self);
         }
         let n = stepped(y);
-        Drawn {
-            reason: 0,
-            number: n,
-            next: Generator { state: n },
-        }
+        given(n, n)
     }
 
     pub fn choice(self, m: u32) -> Drawn
@@ -54,25 +67,13 @@ impl Generator {
     {
         let y = self.state;
         if y == 0 {
-            return Drawn {
-                reason: 11,
-                number: 0,
-                next: self,
-            };
+            return refused(self);
         }
         if m == 0 {
-            return Drawn {
-                reason: 11,
-                number: 0,
-                next: self,
-            };
+            return refused(self);
         }
         let n = stepped(y);
-        Drawn {
-            reason: 0,
-            number: n % m,
-            next: Generator { state: n },
-        }
+        given(n % m, n)
     }
 
     pub fn heads(self, bias: u32) -> Drawn
@@ -80,33 +81,16 @@ impl Generator {
     {
         let y = self.state;
         if y == 0 {
-            return Drawn {
-                reason: 11,
-                number: 0,
-                next: self,
-            };
+            return refused(self);
         }
         if 1000 < bias {
-            return Drawn {
-                reason: 11,
-                number: 0,
-                next: self,
-            };
+            return refused(self);
         }
         let n = stepped(y);
         if n % 1000 < bias {
-            Drawn {
-                reason: 0,
-                number: 1,
-                next: Generator { state: n },
-            }
-        } else {
-            Drawn {
-                reason: 0,
-                number: 0,
-                next: Generator { state: n },
-            }
+            return given(1, n);
         }
+        given(0, n)
     }
 }
 
