@@ -1,0 +1,41 @@
+-- That what the code does to the tables is what is written, bottom up.
+pub mod Basics
+pub mod Clause
+-- one clause: its standing, its place, and a step on it
+pub mod Status
+pub mod Placed
+pub mod Fronts
+pub mod Steps
+pub mod Mid
+pub mod Touch
+-- a flip, and a flip list
+pub mod Pass
+pub mod Turned
+pub mod Flipped
+pub mod Counts
+pub mod Standings
+pub mod Law
+pub mod FlipLists
+-- loops and calls
+pub mod Runs
+pub mod Scanned
+pub mod Rewritten
+pub mod Sizes
+pub mod Calls
+-- opening and closing, and counting afresh
+pub mod Opened
+pub mod Counted
+pub mod Recounted
+-- the tables that are written for a state
+pub mod Parts
+pub mod Padding
+pub mod Multiset
+pub mod ValueWords
+pub mod TurnedWords
+pub mod Listing
+pub mod Laid
+pub mod Held
+pub mod Validity
+pub mod Settled
+pub mod Tallied
+pub mod Outcome

@@ -1,0 +1,147 @@
+-- Written tables opened are walking tables of the same state, and closed again they are written tables. Assumes nothing.
+use mathlib.Core.Path.{_≡_, refl, ap, _∙_, sym, subst}
+use mathlib.Core.Bool.{true}
+use mathlib.Core.List.{List, [], _∷_}
+use Prim.Native.Nat.{ℕ, _*_, _/_, _<_}
+use native.Mathlib.Omega.{arith}
+use lib.ListN.{length, getD}
+use borrow.Author.Tests.{eq-eqb, ne-eqb}
+use Rattle.written.specs.Lists.{total, steps}
+use Rattle.written.specs.Clauses.{File, State, termOf, valueOf, trueCount}
+use Rattle.written.specs.Flips.{flipped}
+use Rattle.laws.proofs.Flips.{flipped-file}
+use Rattle.machine.specs.Literals.{litOf, termIf, xorTrue, InWords}
+use Rattle.machine.specs.Whole.{Text, Whole, fixed, CanRead, countAt, xorAt, flipTerm}
+use Rattle.machine.specs.Passes.{withPlaces, rewritten, walkPlace, restPlace, CanRest, CanOpen, opened, closed}
+use Rattle.machine.specs.Agree.{Holds, InValues, AgreeAt, Resting, Walking, Kept}
+use Rattle.machine.proofs.Clause.{All, every-at}
+use Rattle.machine.proofs.Placed.{placed-same}
+use Rattle.machine.proofs.Flipped.{lits}
+use Rattle.machine.proofs.Standings.{kept-trans}
+use Rattle.machine.proofs.FlipLists.{termsOf, flips-walking, flips-kept}
+use Rattle.machine.proofs.Rewritten.{length-rewritten, rewritten-past, rewritten-at}
+
+-- ---- a clause read from the tables is the clause that is written
+
+-- two readings of the literals that agree on a clause
+module _ (a b : ℕ → ℕ) where
+  total-same : (ls : List ℕ) → All (λ l. a l ≡ b l) ls → total a ls ≡ total b ls
+  unfolding All
+  total-same [] h = refl
+  total-same (l ∷ ls) h = rw (h .0, total-same ls (h .1))
+
+  xor-same : (ls : List ℕ) → All (λ l. a l ≡ b l) ls → xorTrue a ls ≡ xorTrue b ls
+  unfolding xorTrue termIf All
+  xor-same [] h = refl
+  xor-same (l ∷ ls) h = rw (h .0, xor-same ls (h .1))
+
+all-map : (P Q : ℕ → Type 0) → ((l : ℕ) → P l → Q l) → (ls : List ℕ) → All P ls → All Q ls
+unfolding All
+all-map P Q f [] h = tt
+all-map P Q f (l ∷ ls) h = (f l (h .0), all-map P Q f ls (h .1))
+
+module _ (top : ℕ) (cs : List (List ℕ)) (vs ws : List ℕ) (x : Text) (hd : Holds top (length vs) cs x) (v : InValues vs ws) (c : ℕ) (lc : c < length cs) where
+  lit-same : (l : ℕ) → l < 2 * length vs → litOf ws l ≡ valueOf vs l
+  unfolding litOf valueOf termOf
+  lit-same l h = rw (v .values (l / 2) (omega arith))
+
+  all-same : All (λ l. litOf ws l ≡ valueOf vs l) (getD cs c [])
+  all-same = all-map _ _ lit-same (getD cs c []) (lits top (length vs) cs x hd c lc)
+
+  pub count-at : countAt (fixed ws (x .starts) (x .literals)) c ≡ total (valueOf vs) (getD cs c [])
+  unfolding countAt
+  count-at = rw (hd .clause c lc) (total-same (litOf ws) (valueOf vs) (getD cs c []) all-same)
+
+  pub xor-at : xorAt (fixed ws (x .starts) (x .literals)) c ≡ xorTrue (valueOf vs) (getD cs c [])
+  unfolding xorAt
+  xor-at = rw (hd .clause c lc) (xor-same (litOf ws) (valueOf vs) (getD cs c []) all-same)
+
+  pub can-read : CanRead (fixed ws (x .starts) (x .literals)) c
+  unfolding InWords
+  can-read =
+      record {
+        part = hd .clause-part c lc;
+        words = rw (hd .clause c lc) (λ k l. let e = every-at (λ l. l < 2 * length vs) (getD cs c []) (lits top (length vs) cs x hd c lc) k l in let r = v .room in omega arith);
+      }
+
+-- ---- the two passes
+
+module _ (top : ℕ) (s : State) (x : Text) (w : Whole) (ρ : ℕ → ℕ) (g : AgreeAt ρ top s x w) where
+  abbrev n : ℕ
+  n = length (s .file .clauses)
+
+  abbrev κ : ℕ → ℕ
+  κ c = trueCount (s .values) (getD (s .file .clauses) c [])
+
+  abbrev ps : List ℕ
+  ps = w .tallies .uncovered .places
+
+  -- other places for the covered
+  replaced : (ρ′ : ℕ → ℕ) (h : ℕ → ℕ → ℕ) → ((c p : ℕ) → c < n → κ c ≡ 0 → h c p ≡ p) → ((c p : ℕ) → c < n → (κ c ≡ 0 → ⊥) → h c p ≡ ρ′ c)
+      → AgreeAt ρ′ top s x (withPlaces (rewritten h n ps) w)
+  replaced ρ′ h same new =
+      let room = g .places .places-room in
+      record {
+        holds = g .holds;
+        words = g .words;
+        trues-room = g .trues-room;
+        trues = g .trues;
+        breaks-room = g .breaks-room;
+        breaks = g .breaks;
+        number = g .number;
+        places =
+            placed-same n κ κ ρ ρ′ (w .tallies .uncovered) (rewritten h n ps) (g .places) (λ d l z. z) (λ d l z. z) (rw (length-rewritten h n ps) room)
+            (λ d l z. rewritten-at h n ps d l room ∙ same d (getD ps d 0) l z)
+            (λ d l z. rewritten-at h n ps d l room ∙ new d (getD ps d 0) l z);
+        list = g .list;
+      }
+
+  pub opened-walking : Walking top s x (opened n x w)
+  unfolding opened walkPlace
+  opened-walking =
+      replaced (λ c. xorTrue (valueOf (s .values)) (getD (s .file .clauses) c [])) (walkPlace (fixed (w .words) (x .starts) (x .literals)) (w .tallies .trues))
+      (λ c p l z. rw (eq-eqb _ 0 (g .trues c l ∙ z)))
+      (λ c p l z. rw (ne-eqb _ 0 (λ q. z (sym (g .trues c l) ∙ q))) (xor-at top (s .file .clauses) (s .values) (w .words) x (g .holds) (g .words) c l))
+
+  pub closed-resting : Resting top s x (closed n w)
+  unfolding closed restPlace
+  closed-resting =
+      replaced (λ c. 0) (restPlace (w .tallies .trues))
+      (λ c p l z. rw (eq-eqb _ 0 (g .trues c l ∙ z)))
+      (λ c p l z. rw (ne-eqb _ 0 (λ q. z (sym (g .trues c l) ∙ q))))
+
+  pub close-can : CanRest n (w .tallies .trues) ps
+  close-can = record { counts = g .trues-room; places = g .places .places-room }
+
+  pub open-can : CanOpen n (fixed (w .words) (x .starts) (x .literals)) (w .tallies .trues) ps
+  open-can = record { rest = close-can; read = λ c l. can-read top (s .file .clauses) (s .values) (w .words) x (g .holds) (g .words) c l }
+
+-- what is past the entries in use stays
+pub opened-kept : (n T : ℕ) (x : Text) (w : Whole) → Kept n T (w .tallies) (opened n x w .tallies)
+unfolding opened
+opened-kept n T x w =
+    record { trues-kept = λ j l. refl; breaks-kept = λ j l. refl; list-kept = λ j l. refl; places-kept = λ j l. rewritten-past _ n (w .tallies .uncovered .places) j l }
+
+pub closed-kept : (n T : ℕ) (w : Whole) → Kept n T (w .tallies) (closed n w .tallies)
+unfolding closed
+closed-kept n T w =
+    record { trues-kept = λ j l. refl; breaks-kept = λ j l. refl; list-kept = λ j l. refl; places-kept = λ j l. rewritten-past _ n (w .tallies .uncovered .places) j l }
+
+-- ---- a flip list on written tables: opened, flipped and closed
+
+module _ (top : ℕ) (ts : List ℕ) (s : State) (x : Text) (w : Whole) (g : Resting top s x w) (b : termsOf (length (s .values)) ts ≡ true) where
+  abbrev size : ℕ
+  size = length (s .file .clauses)
+
+  walked : Walking top (flipped ts s) x (steps (flipTerm x) ts (opened size x w))
+  walked = flips-walking top ts s x (opened size x w) (opened-walking top s x w (λ c. 0) g) b
+
+  pub flips-resting : Resting top (flipped ts s) x (closed size (steps (flipTerm x) ts (opened size x w)))
+  flips-resting =
+      subst (λ (k : ℕ). Resting top (flipped ts s) x (closed k (steps (flipTerm x) ts (opened size x w)))) (ap (λ (f : File). length (f .clauses)) (flipped-file ts s))
+      (closed-resting top (flipped ts s) x (steps (flipTerm x) ts (opened size x w)) _ walked)
+
+  pub flips-rest-kept : Kept size (length (s .values)) (w .tallies) (closed size (steps (flipTerm x) ts (opened size x w)) .tallies)
+  flips-rest-kept =
+      kept-trans (opened-kept size (length (s .values)) x w)
+      (kept-trans (flips-kept top ts s x (opened size x w) (opened-walking top s x w (λ c. 0) g) b) (closed-kept size (length (s .values)) (steps (flipTerm x) ts (opened size x w))))

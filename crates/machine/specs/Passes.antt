@@ -1,0 +1,85 @@
+-- The passes over the tables: written tables made ready for walking and made written again, and counts worked out afresh. Assumes nothing.
+use Prim.Native.Nat.{ℕ, zero, suc, _≤_, _<_}
+use mathlib.Core.Path.{_≡_}
+use mathlib.Core.Bool.{cond}
+use mathlib.Core.List.{List}
+use lib.ListN.{length, getD, set}
+use lib.Dec.{eqb}
+use Rattle.written.specs.Agreement.{partOf}
+use Rattle.machine.specs.Uncovered.{marks, enters, CanEnter}
+use Rattle.machine.specs.Tallies.{Tallies, tallies, raised, CanRaise}
+use Rattle.machine.specs.Whole.{Text, Whole, whole, Fixed, fixed, CanRead, countAt, xorAt}
+
+-- 0, 1 and on below n, one after the other
+unfoldable pub upTo : {S : Type 0} → (ℕ → S → S) → ℕ → S → S
+upTo g zero s = s
+upTo g (suc n) s = g n (upTo g n s)
+
+-- each entry below n becomes h of its number and what stood there
+unfoldable pub rewritten : (ℕ → ℕ → ℕ) → ℕ → List ℕ → List ℕ
+rewritten h n ps = upTo (λ c qs. set qs c (h c (getD qs c 0))) n ps
+
+-- the entries below n made 0
+unfoldable pub zeroed : ℕ → List ℕ → List ℕ
+zeroed n xs = rewritten (λ i p. 0) n xs
+
+-- ---- opening and closing
+
+-- what walking has at the place of clause c, where p stood, and what stands there in written tables; ts are the true counts
+unfoldable pub walkPlace : Fixed → List ℕ → ℕ → ℕ → ℕ
+walkPlace f ts c p = cond (eqb (getD ts c 0) 0) p (xorAt f c)
+
+unfoldable pub restPlace : List ℕ → ℕ → ℕ → ℕ
+restPlace ts c p = cond (eqb (getD ts c 0) 0) p 0
+
+-- what the two passes over n clauses ask
+pub record CanRest (n : ℕ) (ts ps : List ℕ) : Type 0 where
+  pub counts : n ≤ length ts
+  pub places : n ≤ length ps
+
+pub record CanOpen (n : ℕ) (f : Fixed) (ts ps : List ℕ) : Type 0 where
+  pub rest : CanRest n ts ps
+  pub read : (c : ℕ) → c < n → CanRead f c
+
+-- the tables with other places
+abbrev pub withPlaces : List ℕ → Whole → Whole
+withPlaces ps w = whole (w .words) (tallies (w .tallies .trues) (w .tallies .breaks) (w .tallies .uncovered .list) ps (w .tallies .uncovered .number))
+
+-- written tables of n clauses made ready for walking, and made written again
+unfoldable pub opened : ℕ → Text → Whole → Whole
+opened n x w = withPlaces (rewritten (walkPlace (fixed (w .words) (x .starts) (x .literals)) (w .tallies .trues)) n (w .tallies .uncovered .places)) w
+
+unfoldable pub closed : ℕ → Whole → Whole
+closed n w = withPlaces (rewritten (restPlace (w .tallies .trues)) n (w .tallies .uncovered .places)) w
+
+-- ---- counting afresh
+
+-- clause c counted
+unfoldable pub countOne : Fixed → ℕ → Tallies → Tallies
+countOne f c t =
+    record {
+      trues = set (t .trues) c (countAt f c);
+      breaks = cond (eqb (countAt f c) 1) (raised (t .breaks) (xorAt f c)) (t .breaks);
+      uncovered = cond (eqb (countAt f c) 0) (enters c (t .uncovered)) (marks c (xorAt f c) (t .uncovered));
+    }
+
+-- what it asks; top is 2 to the width of an entry
+pub record CanCount (top : ℕ) (f : Fixed) (c : ℕ) (t : Tallies) : Type 0 where
+  pub number : c < top
+  pub read : CanRead f c
+  pub short : length (partOf (f .starts) (f .literals) c) < top
+  pub count : c < length (t .trues)
+  pub enter : CanEnter top c (t .uncovered)
+  pub one : countAt f c ≡ 1 → CanRaise top (t .breaks) (xorAt f c)
+
+-- the tallies in which counting begins, for C clauses and T terms: no break, and an empty list
+unfoldable pub blank : ℕ → ℕ → Tallies → Tallies
+blank C T t = tallies (t .trues) (zeroed T (t .breaks)) (zeroed C (t .uncovered .list)) (t .uncovered .places) 0
+
+-- the tallies of the first n clauses, counted into those
+unfoldable pub counted : ℕ → Fixed → Tallies → Tallies
+counted n f t = upTo (countOne f) n t
+
+-- counts worked out afresh for C clauses and T terms
+unfoldable pub recounted : ℕ → ℕ → Text → Whole → Whole
+recounted C T x w = whole (w .words) (counted C (fixed (w .words) (x .starts) (x .literals)) (blank C T (w .tallies)))

@@ -1,0 +1,81 @@
+-- The tables that a flip reads and those that it writes, and the flip of a term on them. Assumes nothing.
+use Prim.Native.Nat.{ℕ, _+_, _-_, _*_, _/_, _≤_, _<_}
+use mathlib.Core.List.{List}
+use lib.ListN.{length, getD}
+use Rattle.words.specs.Words.{bitAt, turnAt}
+use Rattle.written.specs.Lists.{total, steps}
+use Rattle.written.specs.Agreement.{partOf}
+use Rattle.machine.specs.Literals.{litOf, xorTrue, InWords}
+use Rattle.machine.specs.Tallies.{Tallies, gainOne, loseOne, CanGain, CanLose, CanSteps}
+
+-- the tables that a flip only reads
+pub record Text : Type 0 where
+  pub starts : List ℕ
+  pub literals : List ℕ
+  pub occurrenceStarts : List ℕ
+  pub occurrences : List ℕ
+
+abbrev pub text : List ℕ → List ℕ → List ℕ → List ℕ → Text
+text s l o c = record { starts = s; literals = l; occurrenceStarts = o; occurrences = c }
+
+-- the tables that a flip writes: the value words and the tallies
+pub record Whole : Type 0 where
+  pub words : List ℕ
+  pub tallies : Tallies
+
+abbrev pub whole : List ℕ → Tallies → Whole
+whole ws t = record { words = ws; tallies = t }
+
+-- what is read of a clause: the value words, clause starts, literals
+pub record Fixed : Type 0 where
+  pub words : List ℕ
+  pub starts : List ℕ
+  pub literals : List ℕ
+
+abbrev pub fixed : List ℕ → List ℕ → List ℕ → Fixed
+fixed w s l = record { words = w; starts = s; literals = l }
+
+-- what it asks to read part k of the entries, by the starts
+pub record CanPart (starts xs : List ℕ) (k : ℕ) : Type 0 where
+  pub start : k + 1 < length starts
+  pub order : getD starts k 0 ≤ getD starts (k + 1) 0
+  pub within : getD starts (k + 1) 0 ≤ length xs
+
+-- what it asks to read clause c with its literals' values
+pub record CanRead (f : Fixed) (c : ℕ) : Type 0 where
+  pub part : CanPart (f .starts) (f .literals) c
+  pub words : InWords (f .words) (partOf (f .starts) (f .literals) c)
+
+-- how many literals of clause c are true, and their terms, xored
+unfoldable pub countAt : Fixed → ℕ → ℕ
+countAt f c = total (litOf (f .words)) (partOf (f .starts) (f .literals) c)
+
+unfoldable pub xorAt : Fixed → ℕ → ℕ
+xorAt f c = xorTrue (litOf (f .words)) (partOf (f .starts) (f .literals) c)
+
+-- the literal of term v that becomes true as v flips, and the one that becomes false
+unfoldable pub upOf : List ℕ → ℕ → ℕ
+upOf ws v = 2 * v + bitAt ws v
+
+unfoldable pub downOf : List ℕ → ℕ → ℕ
+downOf ws v = 2 * v + 1 - bitAt ws v
+
+-- the tallies after the clauses of the one, and after those of the other
+unfoldable pub gained : Text → ℕ → List ℕ → Tallies → Tallies
+gained x v ws t = steps (gainOne v) (partOf (x .occurrenceStarts) (x .occurrences) (upOf ws v)) t
+
+unfoldable pub lost : Text → ℕ → List ℕ → Tallies → Tallies
+lost x v ws t = steps (loseOne v) (partOf (x .occurrenceStarts) (x .occurrences) (downOf ws v)) t
+
+-- the flip of term v
+unfoldable pub flipTerm : Text → ℕ → Whole → Whole
+flipTerm x v w = record { words = turnAt (w .words) v; tallies = lost x v (w .words) (gained x v (w .words) (w .tallies)) }
+
+-- what a flip asks; top is 2 to the width of an entry
+pub record CanFlip (top : ℕ) (x : Text) (v : ℕ) (w : Whole) : Type 0 where
+  pub word : v / 32 < length (w .words)
+  pub small : 2 * v + 1 < top
+  pub up : CanPart (x .occurrenceStarts) (x .occurrences) (upOf (w .words) v)
+  pub down : CanPart (x .occurrenceStarts) (x .occurrences) (downOf (w .words) v)
+  pub gains : CanSteps (CanGain top v) (gainOne v) (partOf (x .occurrenceStarts) (x .occurrences) (upOf (w .words) v)) (w .tallies)
+  pub loses : CanSteps (CanLose top v) (loseOne v) (partOf (x .occurrenceStarts) (x .occurrences) (downOf (w .words) v)) (gained x v (w .words) (w .tallies))
