@@ -1,0 +1,114 @@
+//! Flip lists; every entry fits in 16 bits where the terms do.
+
+use super::random::Random;
+use crate::limits::Limits;
+
+#[derive(Clone, Copy, Debug, PartialEq, Eq)]
+pub enum FlipListKind {
+    Empty,
+    One,
+    Few,
+    Thousands,
+    /// One term again and again.
+    OneTermOften,
+    /// Every term once, in any order.
+    EachTermOnce,
+    AtLimit,
+    PastLimit,
+    UnknownTerm,
+    /// Too long, with an unknown term as well: 14 comes first.
+    UnknownTermPastLimit,
+}
+
+impl FlipListKind {
+    pub const ALL: [FlipListKind; 10] = [
+        FlipListKind::Empty,
+        FlipListKind::One,
+        FlipListKind::Few,
+        FlipListKind::Thousands,
+        FlipListKind::OneTermOften,
+        FlipListKind::EachTermOnce,
+        FlipListKind::AtLimit,
+        FlipListKind::PastLimit,
+        FlipListKind::UnknownTerm,
+        FlipListKind::UnknownTermPastLimit,
+    ];
+
+    /// The kinds that are accepted where the tables agree.
+    pub const ACCEPTED: [FlipListKind; 7] = [
+        FlipListKind::Empty,
+        FlipListKind::One,
+        FlipListKind::Few,
+        FlipListKind::Thousands,
+        FlipListKind::OneTermOften,
+        FlipListKind::EachTermOnce,
+        FlipListKind::AtLimit,
+    ];
+}
+
+/// A list of any kind over this many terms; the longest ones are rare, since they take long.
+pub fn flip_list(limits: &Limits, terms: u64, random: &mut Random) -> Vec<u64> {
+    let mut kind = random.pick(&FlipListKind::ALL);
+    if kind == FlipListKind::AtLimit && !random.one_in(8) {
+        kind = FlipListKind::Few;
+    }
+    flip_list_of(kind, limits, terms, random)
+}
+
+pub fn flip_list_of(
+    kind: FlipListKind,
+    limits: &Limits,
+    terms: u64,
+    random: &mut Random,
+) -> Vec<u64> {
+    match kind {
+        FlipListKind::Empty => Vec::new(),
+        FlipListKind::One => known_terms(1, terms, random),
+        FlipListKind::Few | FlipListKind::UnknownTerm => few(kind, limits, terms, random),
+        FlipListKind::Thousands => {
+            let length = random.between(1_000, 4_000).min(limits.list);
+            known_terms(length, terms, random)
+        }
+        FlipListKind::OneTermOften => {
+            let length = random.between(1, 9).min(limits.list);
+            vec![some_term(terms, random); length]
+        }
+        FlipListKind::EachTermOnce => each_term_once(limits, terms, random),
+        FlipListKind::AtLimit => known_terms(limits.list, terms, random),
+        FlipListKind::PastLimit => known_terms(limits.list + 1, terms, random),
+        FlipListKind::UnknownTermPastLimit => {
+            with_an_unknown_term(known_terms(limits.list + 1, terms, random), terms, random)
+        }
+    }
+}
+
+fn few(kind: FlipListKind, limits: &Limits, terms: u64, random: &mut Random) -> Vec<u64> {
+    let length = random.between(2, 40).min(limits.list);
+    let list = known_terms(length, terms, random);
+    match kind {
+        FlipListKind::UnknownTerm => with_an_unknown_term(list, terms, random),
+        _ => list,
+    }
+}
+
+/// Where no term is known, 0 stands for one.
+fn some_term(terms: u64, random: &mut Random) -> u64 {
+    random.bits() % terms.max(1)
+}
+
+fn known_terms(length: usize, terms: u64, random: &mut Random) -> Vec<u64> {
+    (0..length).map(|_| some_term(terms, random)).collect()
+}
+
+fn each_term_once(limits: &Limits, terms: u64, random: &mut Random) -> Vec<u64> {
+    let mut list: Vec<u64> = (0..terms.min(limits.list as u64)).collect();
+    random.shuffle(&mut list);
+    list
+}
+
+/// The lowest unknown term, or the highest number of 16 bits, anywhere in the list.
+fn with_an_unknown_term(mut list: Vec<u64>, terms: u64, random: &mut Random) -> Vec<u64> {
+    let place = random.below(list.len());
+    list[place] = random.pick(&[terms, terms.max(u64::from(u16::MAX))]);
+    list
+}

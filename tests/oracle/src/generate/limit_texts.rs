@@ -1,0 +1,241 @@
+//! Clause texts at the limits, one past them, and with more lines where a limit is met.
+
+use super::lines::{signed, write, Line};
+use super::names::{nth_name, ONE_BYTE_NAMES};
+use super::random::Random;
+use super::valid_texts::valid_text;
+use crate::limits::Limits;
+
+/// Lines to put after a text that fills a limit; ! and " are known there, the longer names not.
+const TAILS: [&[u8]; 24] = [
+    b"! ~!\n",
+    b"! !\n",
+    b"! \" ~!\n",
+    b"! ! ~!\n",
+    b"~ x\t\n",
+    b"~\n",
+    b"\n",
+    b"   \n",
+    b"! ~\n",
+    b"~! ~ \x00\xff\n",
+    b"newterm1 ~\n",
+    b"newterm1 ~newterm1\n",
+    b"~newterm1\n",
+    b"! newterm1\n",
+    b"! ~! newterm1\n",
+    b"!\t\n",
+    b"! ~!\t\n",
+    b"! ~! \t\n",
+    b"! !\t\n",
+    b"!~\n",
+    b"newterm1\t\n",
+    b"abcdefghi\n",
+    b"! ~ abcdefghi\n",
+    b"!\n",
+];
+
+/// How much a text holds.
+#[derive(Clone, Copy, Debug, PartialEq, Eq)]
+pub struct Size {
+    pub terms: usize,
+    pub clauses: usize,
+    pub literals: usize,
+}
+
+/// A text that holds this many terms.
+pub fn text_of_terms(terms: usize, limits: &Limits, random: &mut Random) -> Vec<u8> {
+    let literals = random.between(terms, limits.literals.min(2 * terms));
+    let clauses = clauses_for(literals, terms, limits, random);
+    text_of_size(
+        Size {
+            terms,
+            clauses,
+            literals,
+        },
+        random,
+    )
+}
+
+/// A text that holds this many clauses.
+pub fn text_of_clauses(clauses: usize, limits: &Limits, random: &mut Random) -> Vec<u8> {
+    let terms = few_terms(limits, random);
+    let literals = random.between(clauses.max(terms), limits.literals);
+    text_of_size(
+        Size {
+            terms,
+            clauses,
+            literals,
+        },
+        random,
+    )
+}
+
+/// A text that holds this many literals.
+pub fn text_of_literals(literals: usize, limits: &Limits, random: &mut Random) -> Vec<u8> {
+    let terms = few_terms(limits, random);
+    let clauses = clauses_for(literals, terms, limits, random);
+    text_of_size(
+        Size {
+            terms,
+            clauses,
+            literals,
+        },
+        random,
+    )
+}
+
+/// A text that holds every limit but that of its bytes.
+pub fn text_full_of_all(limits: &Limits, random: &mut Random) -> Vec<u8> {
+    let Limits {
+        terms,
+        clauses,
+        literals,
+        ..
+    } = *limits;
+    text_of_size(
+        Size {
+            terms,
+            clauses,
+            literals,
+        },
+        random,
+    )
+}
+
+/// A text that holds both the most terms and the most literals: "6 before 7 where both are full".
+pub fn text_full_of_terms_and_literals(limits: &Limits, random: &mut Random) -> Vec<u8> {
+    let Limits {
+        terms, literals, ..
+    } = *limits;
+    let clauses = clauses_for(literals, terms, limits, random);
+    text_of_size(
+        Size {
+            terms,
+            clauses,
+            literals,
+        },
+        random,
+    )
+}
+
+/// An accepted text of exactly this many bytes, where that leaves room for a clause.
+pub fn text_of_bytes(bytes: usize, random: &mut Random) -> Vec<u8> {
+    let mut text = valid_text(random);
+    if text.len() > bytes {
+        text = b"a\n".to_vec();
+    }
+    if random.coin() {
+        pad_at_the_end(&mut text, bytes, random);
+        return text;
+    }
+    let mut padded = Vec::new();
+    pad_at_the_end(&mut padded, bytes.saturating_sub(text.len()), random);
+    padded.extend(text);
+    padded
+}
+
+/// One to three lines where a limit is met or nearly met.
+pub fn add_tails(text: &mut Vec<u8>, random: &mut Random) {
+    for _ in 0..random.between(1, 3) {
+        text.extend(random.pick(&TAILS));
+    }
+}
+
+fn few_terms(limits: &Limits, random: &mut Random) -> usize {
+    random.between(limits.terms.min(20), limits.terms.min(ONE_BYTE_NAMES))
+}
+
+/// A number of clauses that these literals fill without going past the widest clause.
+fn clauses_for(literals: usize, terms: usize, limits: &Limits, random: &mut Random) -> usize {
+    let fewest = literals.div_ceil(widest(terms).min(16));
+    random.between(fewest.min(limits.clauses), limits.clauses.min(literals))
+}
+
+/// Later literals of a clause are drawn from the terms with names of one byte.
+fn widest(terms: usize) -> usize {
+    terms.min(ONE_BYTE_NAMES)
+}
+
+/// A text of exactly this size; no line of it is dropped and no literal skipped.
+pub fn text_of_size(size: Size, random: &mut Random) -> Vec<u8> {
+    let mut filler = Filler {
+        size,
+        introduced: 0,
+        left: size.literals,
+        random,
+    };
+    let widths = filler.widths();
+    let lines: Vec<Line> = widths.into_iter().map(|width| filler.line(width)).collect();
+    write(&lines)
+}
+
+struct Filler<'a> {
+    size: Size,
+    introduced: usize,
+    /// Literals that are still to be written.
+    left: usize,
+    random: &'a mut Random,
+}
+
+impl Filler<'_> {
+    /// The width of each clause; together they are the literals.
+    fn widths(&mut self) -> Vec<usize> {
+        let most = widest(self.size.terms);
+        let mut widths = vec![1; self.size.clauses];
+        let mut more = self.size.literals.saturating_sub(self.size.clauses);
+        while more > 0 && widths.iter().any(|width| *width < most) {
+            let index = self.random.below(widths.len());
+            let added = self
+                .random
+                .between(0, more.min(most - widths[index]).min(8));
+            widths[index] += added;
+            more -= added;
+        }
+        widths
+    }
+
+    fn line(&mut self, width: usize) -> Line {
+        let mut terms = Vec::new();
+        while terms.len() < width {
+            let term = self.next_term();
+            if !terms.contains(&term) {
+                terms.push(term);
+                self.introduced = self.introduced.max(term + 1);
+                self.left -= 1;
+            }
+        }
+        terms
+            .iter()
+            .map(|term| signed(&nth_name(*term), self.random.coin()))
+            .collect()
+    }
+
+    /// A new term where one must come now, else a new one or one of those with short names.
+    fn next_term(&mut self) -> usize {
+        let new = self.size.terms - self.introduced;
+        let must = self.introduced == 0 || self.left <= new;
+        if new > 0 && (must || self.random.coin()) {
+            self.introduced
+        } else {
+            self.random.below(widest(self.introduced))
+        }
+    }
+}
+
+/// Fills up to the size with one comment, one line of spaces, or nothing but line ends.
+fn pad_at_the_end(text: &mut Vec<u8>, size: usize, random: &mut Random) {
+    let missing = size.saturating_sub(text.len());
+    if missing == 0 {
+        return;
+    }
+    let filler = random.pick(b"x \n");
+    let mut padding = vec![filler; missing];
+    if filler == b'x' {
+        padding[0] = if missing == 1 { b'\n' } else { b'~' };
+        if missing > 2 {
+            padding[1] = b' ';
+        }
+    }
+    padding[missing - 1] = b'\n';
+    text.extend(padding);
+}

@@ -1,0 +1,31 @@
+//! A deterministic generator of texts, inputs, orders, lists and tables to compare on.
+//! Every kind can be asked for by itself; the functions without a kind mix them all.
+
+pub mod cases;
+pub mod damage;
+pub mod draws;
+pub mod faulty_texts;
+pub mod flip_lists;
+pub mod inputs;
+pub mod lent;
+pub mod limit_texts;
+pub mod lines;
+pub mod names;
+pub mod orders;
+pub mod random;
+pub mod sheets;
+pub mod texts;
+pub mod valid_texts;
+
+pub use cases::{flip_case, read_case, run_case, walk_case};
+pub use cases::{FlipCase, ReadCase, RunCase, WalkCase};
+pub use damage::{damage, damage_of, DamageKind};
+pub use draws::{draw_case, reader_script, DrawCase};
+pub use flip_lists::{flip_list, flip_list_of, FlipListKind};
+pub use inputs::{input, input_of, input_within, InputKind};
+pub use lent::{lent_tables, lent_tables_of, standing_tables, LentKind};
+pub use orders::{order, order_in_range, order_of, OrderKind};
+pub use random::Random;
+pub use sheets::{good_sheet, sheet, sheet_of, sheet_of_order, SheetKind};
+pub use texts::{clause_text, clause_text_of, clause_text_within, TextKind};
+pub use valid_texts::ValidKind;

@@ -1,0 +1,28 @@
+//! The four numbers of an order and their ranges.
+
+use std::ops::RangeInclusive;
+
+pub const SEEDS: RangeInclusive<u64> = 1..=4_294_967_295;
+pub const FLIPS: RangeInclusive<u64> = 0..=100_000;
+pub const WALKS: RangeInclusive<u64> = 1..=1_000;
+/// A bias is given in thousandths.
+pub const THOUSANDTHS: u64 = 1_000;
+pub const BIASES: RangeInclusive<u64> = 0..=THOUSANDTHS;
+
+/// What a walk is asked to do; `flips` are those allowed for each walk.
+#[derive(Clone, Copy, Debug, Default, PartialEq, Eq)]
+pub struct Order {
+    pub seed: u64,
+    pub flips: u64,
+    pub walks: u64,
+    pub bias: u64,
+}
+
+impl Order {
+    pub fn is_in_range(&self) -> bool {
+        SEEDS.contains(&self.seed)
+            && FLIPS.contains(&self.flips)
+            && WALKS.contains(&self.walks)
+            && BIASES.contains(&self.bias)
+    }
+}

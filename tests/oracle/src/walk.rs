@@ -1,0 +1,154 @@
+//! The walk, step for step.
+
+use crate::agree::agree;
+use crate::draw::Generator;
+use crate::limits::{Limits, TERMS_IN_A_WORD};
+use crate::order::Order;
+use crate::reasons::{NONE, OUT_OF_RANGE, TABLES_DISAGREE, TABLE_TOO_SHORT};
+use crate::state::{term_of, Occurrences, State};
+use crate::tables::{Counts, Tables};
+
+/// Result 1 is found, 2 gave up, 0 refused.
+#[derive(Clone, Copy, Debug, PartialEq, Eq)]
+pub struct WalkAnswer {
+    pub result: u64,
+    pub reason: u64,
+    /// "Walks are those begun".
+    pub walks: u64,
+    /// "flips are summed over all of them".
+    pub flips: u64,
+    pub counts: Counts,
+}
+
+/// Walks from agreeing tables and leaves its end in them.
+pub fn walk(limits: &Limits, order: &Order, counts: Counts, tables: &mut Tables) -> WalkAnswer {
+    if let Some(reason) = reason_against(limits, order, &counts, tables) {
+        return WalkAnswer {
+            result: 0,
+            reason,
+            walks: 0,
+            flips: 0,
+            counts,
+        };
+    }
+    let mut walker = Walker::new(order, State::standing(&counts, tables));
+    let found = walker.walk_until_found_or_spent();
+    tables.write_over(limits, &walker.state.lay_out(limits));
+    WalkAnswer {
+        result: if found { 1 } else { 2 },
+        reason: NONE,
+        walks: walker.walks,
+        flips: walker.flips,
+        counts: walker.state.counts(),
+    }
+}
+
+/// "A walk tests 1, 11, 12."
+fn reason_against(limits: &Limits, order: &Order, counts: &Counts, tables: &Tables) -> Option<u64> {
+    if !tables.reach_full_size(limits) {
+        Some(TABLE_TOO_SHORT)
+    } else if !order.is_in_range() {
+        Some(OUT_OF_RANGE)
+    } else if !agree(limits, counts, tables) {
+        Some(TABLES_DISAGREE)
+    } else {
+        None
+    }
+}
+
+struct Walker<'a> {
+    order: &'a Order,
+    state: State,
+    occurrences: Occurrences,
+    generator: Generator,
+    walks: u64,
+    flips: u64,
+}
+
+impl<'a> Walker<'a> {
+    fn new(order: &'a Order, state: State) -> Walker<'a> {
+        let occurrences = state.occurrences();
+        let generator = Generator {
+            state: order.seed as u32,
+        };
+        Walker {
+            order,
+            state,
+            occurrences,
+            generator,
+            walks: 0,
+            flips: 0,
+        }
+    }
+
+    /// "next walk from 1, or give up if it was the last. The generator is not seeded again."
+    fn walk_until_found_or_spent(&mut self) -> bool {
+        while self.walks < self.order.walks {
+            if self.walk_once() {
+                return true;
+            }
+        }
+        false
+    }
+
+    /// Steps 1 to 5; found is tested before the flips are.
+    fn walk_once(&mut self) -> bool {
+        self.walks += 1;
+        self.start();
+        let mut flips_of_this_walk = 0;
+        while !self.state.uncovered.is_empty() {
+            if flips_of_this_walk == self.order.flips {
+                return false;
+            }
+            let clause = self.choose_clause();
+            let term = self.choose_term(clause);
+            self.state.flip(term, &self.occurrences);
+            flips_of_this_walk += 1;
+            self.flips += 1;
+        }
+        true
+    }
+
+    /// Step 1: "for every 32 terms, or the part of 32 at the end, one draw gives their values".
+    fn start(&mut self) {
+        for word in self.state.values.chunks_mut(TERMS_IN_A_WORD) {
+            let draw = self.generator.draw();
+            for (bit, value) in word.iter_mut().enumerate() {
+                *value = draw >> bit & 1 == 1;
+            }
+        }
+        self.state.uncovered = self.state.uncovered_rising();
+    }
+
+    /// Step 3: "It is drawn even when there is one."
+    fn choose_clause(&mut self) -> usize {
+        let slot = self.generator.choice(self.state.uncovered.len());
+        self.state.uncovered[slot]
+    }
+
+    /// Step 4; the literals stay in reading order throughout.
+    fn choose_term(&mut self, clause: usize) -> usize {
+        let literals = self.state.clauses[clause].clone();
+        let least = self.least_break_count(&literals);
+        if least > 0 && self.generator.heads(self.order.bias) {
+            return term_of(literals[self.generator.choice(literals.len())]);
+        }
+        let at_least: Vec<usize> = literals
+            .into_iter()
+            .filter(|literal| self.break_count(*literal) == least)
+            .collect();
+        match at_least[..] {
+            [only] => term_of(only),
+            _ => term_of(at_least[self.generator.choice(at_least.len())]),
+        }
+    }
+
+    fn least_break_count(&self, literals: &[usize]) -> usize {
+        let counts = literals.iter().map(|literal| self.break_count(*literal));
+        counts.min().unwrap_or(0)
+    }
+
+    fn break_count(&self, literal: usize) -> usize {
+        self.state.break_count(term_of(literal), &self.occurrences)
+    }
+}

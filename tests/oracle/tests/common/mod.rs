@@ -1,0 +1,114 @@
+//! What the tests share.
+#![allow(dead_code)]
+
+use oracle::reading::{read, ReadAnswer};
+use oracle::walk::{walk, WalkAnswer};
+use oracle::{run, Counts, Limits, Order, Tables};
+
+pub const NARROW: Limits = Limits::NARROW;
+
+/// Limits so low that small texts meet them.
+pub const SMALL: Limits = Limits {
+    text: 1_500,
+    terms: 40,
+    clauses: 90,
+    literals: 240,
+    list: 60,
+};
+
+/// "Numbers are those above unless said."
+pub const ORDER: Order = Order {
+    seed: 1,
+    flips: 10,
+    walks: 1,
+    bias: 400,
+};
+
+/// The good sheet of the program's example.
+pub const GOOD_SHEET: &str = "seed=1\nflips=10\nwalks=1\nbias=400\n";
+
+/// A reading into full-size tables that are not 0 before.
+pub fn read_narrow(text: impl AsRef<[u8]>) -> (ReadAnswer, Tables) {
+    let mut tables = full_of(&NARROW, 7);
+    let answer = read(&NARROW, text.as_ref(), &mut tables);
+    (answer, tables)
+}
+
+/// Full-size tables with this number everywhere.
+pub fn full_of(limits: &Limits, number: u64) -> Tables {
+    let mut tables = Tables::zeros(limits);
+    for table in tables.all_mut() {
+        table.fill(number);
+    }
+    tables
+}
+
+/// A reading that must be accepted.
+pub fn accepted(text: impl AsRef<[u8]>) -> (Counts, Tables) {
+    let (answer, tables) = read_narrow(text);
+    assert_eq!((answer.result, answer.reason, answer.line), (1, 0, 0));
+    (answer.counts, tables)
+}
+
+/// Asserts a refused reading: its reason and line, four counts of 0 and tables 0.
+pub fn assert_refused(text: impl AsRef<[u8]>, reason: u64, line: u64) {
+    let (answer, tables) = read_narrow(text);
+    assert_eq!(
+        (answer.result, answer.reason, answer.line),
+        (0, reason, line)
+    );
+    assert_eq!(answer.counts, Counts::default());
+    assert_eq!(tables, Tables::zeros(&NARROW));
+}
+
+/// A reading and a walk, both accepted.
+pub fn walked(text: &str, order: &Order) -> (WalkAnswer, Tables) {
+    let (counts, mut tables) = accepted(text);
+    let answer = walk(&NARROW, order, counts, &mut tables);
+    assert_eq!(answer.reason, 0);
+    (answer, tables)
+}
+
+/// What the run program prints for a sheet and a text.
+pub fn printed(sheet: &str, text: impl AsRef<[u8]>) -> String {
+    let input = [sheet.as_bytes(), text.as_ref()].concat();
+    String::from_utf8(run(&NARROW, &input)).expect("these names are plain")
+}
+
+/// The three lines of a refusal.
+pub fn refusal(reason: u64, line: u64) -> String {
+    format!("result=refused\nreason={reason}\nline={line}\n")
+}
+
+/// The name of the term with this number in the texts below.
+pub fn name(number: usize) -> String {
+    String::from_utf8(oracle::generate::names::nth_name(number)).expect("names are ASCII")
+}
+
+/// So many literals in clauses of two, over 40 terms, and one clause of one if need be.
+pub fn text_of_literals(count: usize) -> String {
+    let pair = |index: usize| match index + 1 < count {
+        true => format!("{} {}\n", name(index % 40), name((index + 1) % 40)),
+        false => format!("{}\n", name(index % 40)),
+    };
+    (0..count).step_by(2).map(pair).collect()
+}
+
+/// So many unit clauses over 40 terms.
+pub fn text_of_clauses(count: usize) -> String {
+    (0..count)
+        .map(|index| format!("{}\n", name(index % 40)))
+        .collect()
+}
+
+/// So many terms, eight to a clause.
+pub fn text_of_terms(count: usize) -> String {
+    let end = |index: usize| {
+        if index % 8 == 7 || index + 1 == count {
+            "\n"
+        } else {
+            " "
+        }
+    };
+    (0..count).map(|index| name(index) + end(index)).collect()
+}

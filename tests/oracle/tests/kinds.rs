@@ -1,0 +1,238 @@
+//! Each kind that the generator can be asked for does what it says.
+
+mod common;
+
+use std::collections::{BTreeMap, BTreeSet, HashMap};
+
+use common::*;
+use oracle::agree::agree;
+use oracle::flips::flip;
+use oracle::generate::*;
+use oracle::reasons::{NO_CLAUSE, TOO_MANY_CLAUSES, TOO_MANY_LITERALS, TOO_MANY_TERMS};
+use oracle::sheet::read_sheet;
+
+#[test]
+fn valid_texts_are_accepted() {
+    for kind in ValidKind::ALL {
+        for seed in 0..20 {
+            let text = clause_text_of(TextKind::Valid(kind), &NARROW, &mut Random::new(seed));
+            accepted(text);
+        }
+    }
+}
+
+#[test]
+fn texts_at_the_limits_hold_exactly_the_limits() {
+    for seed in 0..12 {
+        let counts = |kind| accepted(clause_text_of(kind, &NARROW, &mut Random::new(seed))).0;
+        assert_eq!(counts(TextKind::TermsAtLimit).terms, NARROW.terms as u64);
+        assert_eq!(
+            counts(TextKind::ClausesAtLimit).clauses,
+            NARROW.clauses as u64
+        );
+        assert_eq!(
+            counts(TextKind::LiteralsAtLimit).literals,
+            NARROW.literals as u64
+        );
+        let full = clause_text_of(TextKind::BytesAtLimit, &NARROW, &mut Random::new(seed));
+        assert_eq!(full.len(), NARROW.text);
+        accepted(full);
+    }
+}
+
+#[test]
+fn texts_one_past_a_limit_are_refused_for_it() {
+    let reasons = [
+        (TextKind::TermsPastLimit, TOO_MANY_TERMS),
+        (TextKind::ClausesPastLimit, TOO_MANY_CLAUSES),
+        (TextKind::LiteralsPastLimit, TOO_MANY_LITERALS),
+        (TextKind::Empty, NO_CLAUSE),
+        (TextKind::NothingKept, NO_CLAUSE),
+    ];
+    for seed in 0..12 {
+        for (kind, reason) in reasons {
+            let text = clause_text_of(kind, &NARROW, &mut Random::new(seed));
+            assert_eq!(read_narrow(text).0.reason, reason, "{kind:?}");
+        }
+        let long = clause_text_of(TextKind::BytesPastLimit, &NARROW, &mut Random::new(seed));
+        assert_eq!(long.len(), NARROW.text + 1);
+        assert_refused(long, 2, 0);
+    }
+}
+
+/// How often each reason is met for texts of this kind.
+fn reasons_of(kind: TextKind, cases: u64) -> BTreeMap<u64, u64> {
+    let mut met = BTreeMap::new();
+    for seed in 0..cases {
+        let text = clause_text_of(kind, &NARROW, &mut Random::new(seed));
+        *met.entry(read_narrow(text).0.reason).or_insert(0) += 1;
+    }
+    met
+}
+
+#[test]
+fn lines_after_a_full_limit_are_accepted_or_refused_in_every_way() {
+    let expected: [(TextKind, &[u64]); 6] = [
+        (TextKind::TermsFullThenMore, &[0, 4, 5, 6]),
+        (TextKind::ClausesFullThenMore, &[0, 4, 5, 8]),
+        (TextKind::LiteralsFullThenMore, &[0, 4, 5, 7]),
+        (TextKind::LiteralsNearlyFullThenMore, &[0, 4, 5, 7]),
+        (TextKind::TermsAndLiteralsFullThenMore, &[0, 4, 5, 6, 7]),
+        (TextKind::AllFullThenMore, &[0, 4, 5, 6, 7]),
+    ];
+    for (kind, reasons) in expected {
+        let met = reasons_of(kind, 60);
+        assert!(
+            reasons.iter().all(|reason| met.contains_key(reason)),
+            "{kind:?} {met:?}"
+        );
+    }
+}
+
+#[test]
+fn faulty_texts_meet_their_faults() {
+    let expected: [(TextKind, &[u64]); 9] = [
+        (TextKind::ChangedBytes, &[0, 3, 4, 5]),
+        (TextKind::InsertedByte, &[0, 4, 5]),
+        (TextKind::RemovedByte, &[0, 3]),
+        (TextKind::Cut, &[3]),
+        (TextKind::LongName, &[5]),
+        (TextKind::WrongByteAfterName, &[4]),
+        (TextKind::WrongByteAfterTilde, &[4]),
+        (TextKind::FewLetters, &[0, 3, 4, 9]),
+        (TextKind::AnyBytes, &[3, 4]),
+    ];
+    for (kind, reasons) in expected {
+        let met = reasons_of(kind, 300);
+        assert!(
+            reasons.iter().all(|reason| met.contains_key(reason)),
+            "{kind:?} {met:?}"
+        );
+    }
+}
+
+#[test]
+fn each_kind_of_sheet_does_what_it_says() {
+    for kind in SheetKind::ALL {
+        let mut met = BTreeSet::new();
+        for seed in 0..60 {
+            let sheet = sheet_of(kind, &mut Random::new(seed));
+            let answer = read_sheet(&sheet);
+            assert_eq!(answer.line > 0, answer.reason > 0);
+            met.insert((answer.reason, answer.line));
+        }
+        let reasons: BTreeSet<u64> = met.iter().map(|answer| answer.0).collect();
+        let lines: BTreeSet<u64> = met.iter().map(|answer| answer.1).collect();
+        match kind {
+            SheetKind::Good | SheetKind::RangeEnds => assert_eq!(reasons, [0].into()),
+            SheetKind::OutOfRange => assert_eq!(reasons, [11].into()),
+            SheetKind::ChangedBytes => assert_eq!(reasons, [0, 10, 11].into()),
+            SheetKind::TwoFaults => assert_eq!(reasons, [10, 11].into()),
+            SheetKind::ExtraLine => assert!(reasons.contains(&10)),
+            _ => assert_eq!(reasons, [10].into(), "{kind:?}"),
+        }
+        if reasons == [10].into() {
+            assert!(lines.len() >= 3, "{kind:?} {lines:?}");
+        }
+    }
+}
+
+#[test]
+fn each_kind_of_order_does_what_it_says() {
+    for seed in 0..200 {
+        let random = &mut Random::new(seed);
+        for kind in OrderKind::IN_RANGE {
+            assert!(order_of(kind, random).is_in_range(), "{kind:?}");
+        }
+        for kind in OrderKind::OUT_OF_RANGE {
+            assert!(!order_of(kind, random).is_in_range(), "{kind:?}");
+        }
+    }
+}
+
+#[test]
+fn each_kind_of_flip_list_does_what_it_says() {
+    let (counts, tables) = standing_tables(&NARROW, &mut Random::new(5));
+    let reason = |kind, random: &mut Random| {
+        let list = flip_list_of(kind, &NARROW, counts.terms, random);
+        flip(&NARROW, &list, counts, &mut tables.clone()).reason
+    };
+    for seed in 0..3 {
+        let random = &mut Random::new(seed);
+        for kind in FlipListKind::ACCEPTED {
+            assert_eq!(reason(kind, random), 0, "{kind:?}");
+        }
+        assert_eq!(reason(FlipListKind::UnknownTerm, random), 13);
+        assert_eq!(reason(FlipListKind::PastLimit, random), 14);
+        assert_eq!(reason(FlipListKind::UnknownTermPastLimit, random), 14);
+    }
+}
+
+#[test]
+fn each_kind_of_lent_tables_does_what_it_says() {
+    for seed in 0..20 {
+        for kind in LentKind::ALL {
+            let tables = lent_tables_of(kind, &SMALL, &mut Random::new(seed));
+            let short = [LentKind::OneShorter, LentKind::SomeEmpty].contains(&kind);
+            assert_eq!(tables.reach_full_size(&SMALL), !short, "{kind:?}");
+        }
+    }
+}
+
+#[test]
+fn each_kind_of_damage_does_what_it_says() {
+    let mut verdicts: HashMap<String, BTreeSet<bool>> = HashMap::new();
+    for seed in 0..400 {
+        for kind in DamageKind::ALL {
+            let random = &mut Random::new(seed);
+            let (mut counts, mut tables) = standing_tables(&SMALL, random);
+            let before = (counts, tables.clone());
+            damage_of(kind, &SMALL, &mut counts, &mut tables, random);
+            let verdict = agree(&SMALL, &counts, &tables);
+            let unchanged = before == (counts, tables.clone());
+            assert_eq!(
+                tables.reach_full_size(&SMALL),
+                kind != DamageKind::OneShorter
+            );
+            assert_verdict(kind, verdict, unchanged);
+            verdicts
+                .entry(format!("{kind:?}"))
+                .or_default()
+                .insert(verdict);
+        }
+    }
+    for both in ["EntryInUse", "EntriesSwapped", "ValueTurned"] {
+        assert_eq!(verdicts[both].len(), 2, "{both}");
+    }
+}
+
+fn assert_verdict(kind: DamageKind, agrees: bool, unchanged: bool) {
+    use DamageKind::*;
+    match kind {
+        None | NameOther | ListReordered | Longer => assert!(agrees, "{kind:?}"),
+        OneShorter => assert!(!agrees, "{kind:?}"),
+        EntryPastUse | SpareValueBit | Count | NameRepeated | NameInvalid | ListReorderedAlone
+        | AllZeros | Rubbish | SmallNumbers => assert_eq!(agrees, unchanged, "{kind:?}"),
+        EntryInUse | EntryByOne | EntriesSwapped | ValueTurned => assert!(agrees || !unchanged),
+    }
+}
+
+#[test]
+fn one_seed_always_gives_the_same() {
+    for seed in 0..100 {
+        let made = || {
+            let random = &mut Random::new(seed);
+            let case = walk_case(&SMALL, random);
+            (
+                clause_text(random),
+                input(random),
+                case.order,
+                case.counts,
+                case.tables,
+            )
+        };
+        assert!(made() == made());
+    }
+    let texts: BTreeSet<Vec<u8>> = (0..100).map(|s| clause_text(&mut Random::new(s))).collect();
+    assert!(texts.len() > 80);
+}

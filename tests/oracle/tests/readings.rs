@@ -1,0 +1,454 @@
+//! One test for each open point of the readings, 1 to 30.
+
+mod common;
+
+use common::*;
+use oracle::agree::agree;
+use oracle::draw::{choice, draw, drawn_from, heads};
+use oracle::flips::flip;
+use oracle::reader::{pack, Reader, Told};
+use oracle::sheet::read_sheet;
+use oracle::walk::walk;
+use oracle::{run, Counts, Order, Tables};
+
+/// All that a reader tells, up to the end or a fault.
+fn told(text: impl AsRef<[u8]>) -> Vec<(Told, u64)> {
+    let mut reader = Reader::new(text.as_ref());
+    let mut items = Vec::new();
+    loop {
+        let item = reader.next();
+        items.push((item.told, item.line));
+        if matches!(item.told, Told::TextEnd | Told::Fault(_)) {
+            return items;
+        }
+    }
+}
+
+fn last_told(text: impl AsRef<[u8]>) -> Told {
+    told(text).last().expect("an end is told").0
+}
+
+fn literal(text: &str) -> Told {
+    let name = text.trim_start_matches('~');
+    Told::Literal {
+        name: pack(name.as_bytes()),
+        negated: name != text,
+    }
+}
+
+#[test]
+fn point_01_a_cut_text_is_3_before_its_bytes_are_judged() {
+    for text in ["a\tb", "abcdefghi"] {
+        assert_refused(text, 3, 0);
+        assert_eq!(printed(GOOD_SHEET, text), refusal(3, 0));
+    }
+    assert_eq!(last_told("a\tb"), Told::Fault(4));
+    assert_eq!(last_told("abcdefghi"), Told::Fault(5));
+}
+
+#[test]
+fn point_02_what_follows_eight_bytes() {
+    assert_refused("abcdefgh~\n", 4, 1);
+    assert_refused("abcdefgh\x7f\n", 4, 1);
+    assert_refused("~abcdefghi\n", 5, 1);
+    assert_refused("~~\n", 4, 1);
+    accepted("~abcdefgh\n");
+}
+
+#[test]
+fn point_03_the_byte_after_a_literal_comes_before_dropping_or_skipping() {
+    assert_refused("a a\t\nb\n", 4, 1);
+    assert_refused("a ~a\t\nb\n", 4, 1);
+    assert_eq!(accepted("a ~a \t\nb\n").0.clauses, 1);
+}
+
+#[test]
+fn point_04_terms_stay_known_up_to_the_drop_point() {
+    assert_eq!(accepted("a ~ b\nc\n").0.terms, 2);
+    assert!(printed(GOOD_SHEET, "a ~ b\nc\n").ends_with("answer=a c\n"));
+}
+
+#[test]
+fn point_05_reason_7_counts_the_open_line() {
+    let nearly = text_of_literals(NARROW.literals - 1);
+    let full = text_of_literals(NARROW.literals);
+    let line = NARROW.literals as u64 / 2 + 1;
+    accepted(nearly.clone() + "! ~!\n");
+    accepted(nearly.clone() + "! ! ~!\n");
+    assert_refused(nearly + "! \" ~!\n", 7, line);
+    assert_refused(full.clone() + "! !\n", 7, line);
+    accepted(full + "~ x\n");
+    let terms = text_of_terms(NARROW.terms);
+    assert_refused(terms + "new ~\n", 6, NARROW.terms as u64 / 8 + 1);
+}
+
+#[test]
+fn point_06_6_before_7_and_8_only_at_the_end_of_a_kept_line() {
+    let terms = text_of_terms(NARROW.terms);
+    let both = terms.clone() + &text_of_literals(NARROW.literals - NARROW.terms);
+    let line = both.lines().count() as u64 + 1;
+    assert_refused(both.clone() + "new\n", 6, line);
+    assert_refused(both + "!\n", 7, line);
+    let clauses = text_of_clauses(NARROW.clauses);
+    let line = NARROW.clauses as u64 + 1;
+    assert_refused(clauses.clone() + "!\t\n", 4, line);
+    accepted(clauses.clone() + "! ~!\n");
+    assert_refused(clauses + "\n!\n", 8, line + 1);
+}
+
+#[test]
+fn point_07_reason_9_after_terms_were_met_leaves_zeros() {
+    assert_refused("a ~a\n", 9, 0);
+}
+
+#[test]
+fn point_08_places_count_from_0() {
+    let (counts, tables) = accepted("a\n~b\nc\n");
+    assert_eq!(counts.uncovered, 2);
+    assert_eq!(tables.uncovered[..3], [0, 2, 0]);
+    assert_eq!(tables.places[..3], [0, 0, 1]);
+}
+
+#[test]
+fn point_09_starts_past_the_last_are_0_and_occurrences_rise() {
+    let (_, tables) = accepted("b a\na\n~b a\n");
+    assert_eq!(tables.starts[..6], [0, 2, 3, 5, 0, 0]);
+    assert_eq!(tables.literals[..6], [0, 2, 2, 1, 2, 0]);
+    assert_eq!(tables.occurrence_starts[..7], [0, 1, 2, 5, 5, 0, 0]);
+    assert_eq!(tables.occurrences[..6], [0, 2, 0, 1, 2, 0]);
+}
+
+#[test]
+fn point_10_after_true_or_passing_the_reader_stands_on_the_lines_end() {
+    let items = told("a ~ \t\x7f\nb\n");
+    let expected = [
+        (literal("a"), 1),
+        (Told::True, 1),
+        (Told::LineEnd, 1),
+        (literal("b"), 2),
+        (Told::LineEnd, 2),
+        (Told::TextEnd, 3),
+    ];
+    assert_eq!(items, expected);
+    let mut reader = Reader::new(b"a \t\nb\n");
+    reader.next();
+    reader.pass();
+    assert_eq!(reader.next().told, Told::LineEnd);
+    assert_eq!(reader.next().told, literal("b"));
+}
+
+#[test]
+fn point_11_passing_right_after_a_lines_end_passes_the_next_line() {
+    let mut reader = Reader::new(b"a\nb \t\nc\n");
+    reader.next();
+    assert_eq!(reader.next().told, Told::LineEnd);
+    reader.pass();
+    let item = reader.next();
+    assert_eq!((item.told, item.line), (Told::LineEnd, 2));
+    assert_eq!(reader.next().told, literal("c"));
+}
+
+#[test]
+fn point_11_after_the_end_or_a_fault_passing_does_nothing() {
+    for text in ["", "\t\na\n", "a\n"] {
+        let mut reader = Reader::new(text.as_bytes());
+        let items: Vec<_> = (0..5).map(|_| reader.next()).collect();
+        reader.pass();
+        assert_eq!(reader.next(), items[4]);
+    }
+}
+
+#[test]
+fn point_12_each_item_has_its_own_line() {
+    let items = told("a\n\n ~b \n");
+    let lines: Vec<u64> = items.iter().map(|item| item.1).collect();
+    assert_eq!(lines, [1, 1, 2, 3, 3, 4]);
+    let longest = "\n".repeat(NARROW.text);
+    assert_eq!(
+        told(longest).last(),
+        Some(&(Told::TextEnd, NARROW.text as u64 + 1))
+    );
+}
+
+#[test]
+fn point_13_a_cut_text_ends_in_3() {
+    for text in ["~", "a", "a ", "~a", "a\nb", " ", "abcdefgh"] {
+        assert_eq!(last_told(text), Told::Fault(3), "{text}");
+    }
+    assert_eq!(told("~ "), [(Told::True, 1), (Told::Fault(3), 1)]);
+    assert_eq!(last_told("abcdefghi"), Told::Fault(5));
+    assert_eq!(last_told("a\n"), Told::TextEnd);
+}
+
+#[test]
+fn point_14_the_reader_does_not_test_reason_2() {
+    let long = "a\n".repeat(NARROW.text);
+    assert_eq!(last_told(long), Told::TextEnd);
+}
+
+#[test]
+fn point_15_state_0_is_reason_11_for_choice_and_heads_too() {
+    for drawn in [
+        draw(0),
+        choice(0, 3),
+        heads(0, 400),
+        choice(5, 0),
+        heads(5, 1001),
+    ] {
+        assert_eq!((drawn.reason, drawn.number), (11, 0));
+    }
+    assert_eq!(choice(5, 0).state, 5);
+    assert_eq!(heads(5, 1001).state, 5);
+    assert_eq!(draw(0).state, 0);
+    assert_eq!((heads(1, 370).number, heads(1, 369).number), (1, 0));
+    assert_eq!(heads(1, 369).state, 270369);
+}
+
+#[test]
+fn point_16_which_draws_a_flip_takes() {
+    // From seed 1 terms 1 to 4 start at 0, so these clauses without ~ start uncovered.
+    let cases = [
+        ("t1\nt2\n", 1000, 1),
+        ("t1 t3\nt2 t4\n", 1000, 2),
+        ("t1\n~t1\n", 0, 2),
+        ("t1\n~t1\n", 1000, 3),
+        ("t1 t2\n~t1\n~t2\n~t2\n", 0, 2),
+        ("t1 t2\n~t1\n~t2\n~t2\n", 1000, 3),
+        ("t1 t2\n~t1\n~t2\n", 0, 3),
+        ("t1 t2\n~t1\n~t2\n", 1000, 3),
+    ];
+    for (clauses, bias, draws) in cases {
+        assert_eq!(
+            draws_of_the_first_flip(clauses, bias),
+            draws,
+            "{clauses} {bias}"
+        );
+    }
+}
+
+/// Terms 5 to 31 stand in no clause, so their values tell which draw began the second walk.
+fn draws_of_the_first_flip(clauses: &str, bias: u64) -> usize {
+    let known: Vec<String> = (0..32).map(|term| format!("t{term}")).collect();
+    let text = format!("{} ~\n{clauses}", known.join(" "));
+    let (answer, tables) = walked(
+        &text,
+        &Order {
+            seed: 1,
+            flips: 1,
+            walks: 2,
+            bias,
+        },
+    );
+    assert_eq!((answer.walks, tables.values[1]), (2, 0));
+    let draws = std::iter::successors(Some(drawn_from(1)), |state| Some(drawn_from(*state)));
+    let begins = |draw: u32| u64::from(draw) >> 5 == tables.values[0] >> 5;
+    let second_start = draws
+        .take(20)
+        .position(begins)
+        .expect("a draw began the walk");
+    second_start - 1
+}
+
+#[test]
+fn point_17_the_last_allowed_flip_may_find() {
+    let (answer, _) = walked("a b\n~a b\n", &Order { flips: 1, ..ORDER });
+    assert_eq!((answer.result, answer.flips), (1, 1));
+}
+
+#[test]
+fn point_18_a_leaving_clause_that_is_last_moves_nothing() {
+    let (counts, mut tables) = accepted("a\nb\nc\n");
+    let answer = flip(&NARROW, &[2], counts, &mut tables);
+    assert_eq!(answer.counts.uncovered, 2);
+    assert_eq!(tables.uncovered[..3], [0, 1, 0]);
+    assert_eq!(tables.places[..3], [0, 1, 0]);
+}
+
+#[test]
+fn point_19_giving_up_leaves_the_last_walks_end() {
+    let order = Order {
+        flips: 0,
+        walks: 2,
+        ..ORDER
+    };
+    let (answer, tables) = walked("a\n~a\nb\n", &order);
+    assert_eq!((answer.result, answer.walks, answer.flips), (2, 2, 0));
+    assert_eq!(tables.values[0], 67634689 & 3);
+    let uncovered = tables.uncovered[..answer.counts.uncovered as usize].to_vec();
+    assert_eq!(uncovered, [1, 2]);
+}
+
+#[test]
+fn point_20_tables_of_a_refused_reading_never_agree() {
+    let (answer, tables) = read_narrow("");
+    for (seed, reason) in [(0, 11), (1, 12)] {
+        let mut lent = tables.clone();
+        let order = Order { seed, ..ORDER };
+        assert_eq!(
+            walk(&NARROW, &order, answer.counts, &mut lent).reason,
+            reason
+        );
+        lent.places.pop();
+        assert_eq!(walk(&NARROW, &order, answer.counts, &mut lent).reason, 1);
+    }
+}
+
+#[test]
+fn point_21_a_flip_list_tests_1_14_12_13() {
+    let (counts, tables) = accepted("a\nb\n");
+    let longest = vec![2; NARROW.list];
+    let too_long = vec![2; NARROW.list + 1];
+    let mut broken = tables.clone();
+    broken.trues[0] = 1;
+    let mut short = broken.clone();
+    short.values.pop();
+    let reason = |list: &[u64], tables: &Tables| {
+        let mut lent = tables.clone();
+        let answer = flip(&NARROW, list, counts, &mut lent);
+        assert_eq!((&lent, answer.counts), (tables, counts));
+        answer.reason
+    };
+    assert_eq!(reason(&too_long, &short), 1);
+    assert_eq!(reason(&too_long, &broken), 14);
+    assert_eq!(reason(&longest, &broken), 12);
+    assert_eq!(reason(&longest, &tables), 13);
+    assert_eq!(reason(&[0, 1, 2], &tables), 13);
+}
+
+#[test]
+fn point_22_any_counts_and_starts_are_12() {
+    let (counts, tables) = accepted("a b\n~a b\n");
+    for wild in [3, 65_535, u64::from(u32::MAX), u64::MAX] {
+        for changed in each_count_changed(counts, wild) {
+            let mut lent = tables.clone();
+            assert_eq!(walk(&NARROW, &ORDER, changed, &mut lent).reason, 12);
+        }
+        for table in 2..10 {
+            let mut lent = tables.clone();
+            lent.all_mut()[table][1] = wild;
+            assert_eq!(walk(&NARROW, &ORDER, counts, &mut lent).reason, 12);
+        }
+    }
+}
+
+fn each_count_changed(counts: Counts, wild: u64) -> [Counts; 4] {
+    [
+        Counts {
+            terms: wild,
+            ..counts
+        },
+        Counts {
+            clauses: wild,
+            ..counts
+        },
+        Counts {
+            literals: wild,
+            ..counts
+        },
+        Counts {
+            uncovered: wild,
+            ..counts
+        },
+    ]
+}
+
+#[test]
+fn point_23_the_rest_is_0() {
+    let (counts, tables) = accepted("a b\n~a b\n~a ~b\n");
+    assert!(agree(&NARROW, &counts, &tables));
+    let spoiled = |spoil: fn(&mut Tables)| {
+        let mut lent = tables.clone();
+        spoil(&mut lent);
+        agree(&NARROW, &counts, &lent)
+    };
+    assert!(!spoiled(|tables| tables.places[1] = 1));
+    assert!(!spoiled(|tables| tables.uncovered[1] = 1));
+    assert!(!spoiled(|tables| tables.values[0] = 1 << 2));
+    assert!(!spoiled(|tables| tables.values[1] = 1));
+    assert!(!spoiled(|tables| tables.starts[4] = 6));
+    assert!(!spoiled(|tables| tables.occurrence_starts[5] = 6));
+    assert!(!spoiled(|tables| tables.names[2] = 33));
+}
+
+#[test]
+fn point_24_the_first_faulty_sheet_line_is_named() {
+    let cases = [
+        ("seed=0", 10, 1),
+        ("seed=0\n", 11, 1),
+        ("", 10, 1),
+        ("seed=1\n", 10, 2),
+    ];
+    for (input, reason, line) in cases {
+        assert_eq!(printed(input, ""), refusal(reason, line), "{input:?}");
+    }
+}
+
+#[test]
+fn point_25_numbers_have_one_to_ten_digits() {
+    let cases = [
+        ("4294967297", 11),
+        ("4294967296", 11),
+        ("9999999999", 11),
+        ("10000000000", 10),
+        ("00", 10),
+        ("01", 10),
+        ("1 ", 10),
+        ("1\r", 10),
+        ("", 10),
+    ];
+    for (number, reason) in cases {
+        let sheet = GOOD_SHEET.replace("seed=1\n", &format!("seed={number}\n"));
+        assert_eq!(printed(&sheet, "a\n"), refusal(reason, 1), "{number:?}");
+    }
+    let highest = GOOD_SHEET.replace("seed=1\n", "seed=4294967295\n");
+    assert!(printed(&highest, "a\n~b\n").starts_with("result=found\n"));
+}
+
+#[test]
+fn point_26_the_sheets_reason_11_carries_its_line() {
+    let changes = [
+        ("seed=1\n", "seed=0\n"),
+        ("=10\n", "=100001\n"),
+        ("s=1\n", "s=0\n"),
+    ];
+    for (line, (from, to)) in (1..).zip(changes) {
+        assert_eq!(
+            printed(&GOOD_SHEET.replace(from, to), "a\n"),
+            refusal(11, line)
+        );
+    }
+}
+
+#[test]
+fn point_27_a_refused_sheet_returns_zeros() {
+    let answer = read_sheet(b"seed=1\nflips=10\nwalks=1\nbias=1001\na\n");
+    assert_eq!((answer.result, answer.reason, answer.line), (0, 11, 4));
+    assert_eq!((answer.order, answer.text_start), (Order::default(), 0));
+    let good = read_sheet(GOOD_SHEET.as_bytes());
+    assert_eq!(
+        (good.result, good.order, good.text_start),
+        (1, ORDER, GOOD_SHEET.len())
+    );
+}
+
+#[test]
+fn point_28_every_printed_line_ends_with_byte_10() {
+    for text in ["a b\n~a b\n", "a\n~a\n", ""] {
+        assert!(printed(GOOD_SHEET, text).ends_with('\n'));
+    }
+}
+
+#[test]
+fn point_29_reason_2_is_tested_on_the_whole_input_first() {
+    let most = vec![b'x'; NARROW.text];
+    assert_eq!(run(&NARROW, &most), refusal(10, 1).into_bytes());
+    let more = vec![b'x'; NARROW.text + 1];
+    assert_eq!(run(&NARROW, &more), refusal(2, 0).into_bytes());
+}
+
+#[test]
+fn point_30_the_result_line_decides() {
+    let lines = printed(GOOD_SHEET, "~?\n");
+    assert!(lines.starts_with("result=found\n"));
+    assert!(lines.ends_with("chosen=0\nanswer=~?\n"));
+}
