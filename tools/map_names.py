@@ -34,7 +34,7 @@ def test(file, name):
 def stands(cited):
     for pattern, look in (
         (r"(\w+)/must-fail/(\w+)", lambda c, n: (ROOT / "crates" / c / "must-fail" / f"{n}.edit").is_file()),
-        (r"(\w+)/(\w+)\.(\S+)", declared),
+        (r"(?!tools/)(\w+)/(\w+)\.(\S+)", declared),
         (r"(\w+)\.rs::(\w+)", test),
         (r"([a-z]\w*)::(\S+)", function),
     ):

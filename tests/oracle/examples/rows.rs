@@ -1,0 +1,180 @@
+//! Prints calls with what they answer and leave, as rows of an antt table: `rows SEED COUNT`.
+//! `tools/compare_written.py` has the prover compute them from the definitions.
+
+use oracle::flips::flip;
+use oracle::generate::{flip_case, read_case, run_case, walk_case, Random};
+use oracle::reading::read;
+use oracle::walk::walk;
+use oracle::{run_on, Counts, Limits, Tables};
+
+/// Small enough for the prover to compute, and met by short texts.
+const LIMITS: Limits = Limits {
+    text: 120,
+    terms: 5,
+    clauses: 7,
+    literals: 16,
+    list: 9,
+};
+
+/// More flips than this take the prover too long.
+const FLIPS: u64 = 40;
+
+fn main() {
+    let numbers: Vec<u64> = std::env::args()
+        .skip(1)
+        .filter_map(|word| word.parse().ok())
+        .collect();
+    let [seed, count] = numbers[..] else {
+        eprintln!("usage: rows SEED COUNT");
+        return;
+    };
+    let mut random = Random::new(seed);
+    let mut printed = 0;
+    while printed < count {
+        let row = match printed % 4 {
+            0 => reading(&mut random),
+            1 => walking(&mut random),
+            2 => flipping(&mut random),
+            _ => running(&mut random),
+        };
+        if let Some(row) = row {
+            println!("{row}");
+            printed += 1;
+        }
+    }
+}
+
+fn reading(random: &mut Random) -> Option<String> {
+    let case = read_case(&LIMITS, random);
+    if case.text.len() > LIMITS.text + 1 {
+        return None;
+    }
+    let mut after = case.tables.clone();
+    let told = read(&LIMITS, &case.text, &mut after);
+    Some(format!(
+        "(reading {} {}) tells {}",
+        bytes(&case.text),
+        tables(&case.tables),
+        seen(
+            told.result,
+            told.reason,
+            told.line,
+            0,
+            0,
+            &told.counts,
+            &after
+        ),
+    ))
+}
+
+fn walking(random: &mut Random) -> Option<String> {
+    let case = walk_case(&LIMITS, random);
+    if case.order.is_in_range() && case.order.flips * case.order.walks > FLIPS {
+        return None;
+    }
+    let mut after = case.tables.clone();
+    let told = walk(&LIMITS, &case.order, case.counts, &mut after);
+    let order = case.order;
+    Some(format!(
+        "(walking (order {} {} {} {}) {} {}) tells {}",
+        order.seed,
+        order.flips,
+        order.walks,
+        order.bias,
+        counts(&case.counts),
+        tables(&case.tables),
+        seen(
+            told.result,
+            told.reason,
+            0,
+            told.walks,
+            told.flips,
+            &told.counts,
+            &after
+        ),
+    ))
+}
+
+fn flipping(random: &mut Random) -> Option<String> {
+    let case = flip_case(&LIMITS, random);
+    let mut after = case.tables.clone();
+    let told = flip(&LIMITS, &case.list, case.counts, &mut after);
+    Some(format!(
+        "(flipping {} {} {}) tells {}",
+        list(&case.list),
+        counts(&case.counts),
+        tables(&case.tables),
+        seen(told.result, told.reason, 0, 0, 0, &told.counts, &after),
+    ))
+}
+
+fn running(random: &mut Random) -> Option<String> {
+    let case = run_case(&LIMITS, random);
+    if case.input.len() > LIMITS.text + 1 || walks_long(&case.input) {
+        return None;
+    }
+    let (mut after, mut out) = (case.tables.clone(), case.out.clone());
+    let length = run_on(&LIMITS, &case.input, &mut after, &mut out);
+    Some(format!(
+        "(running {} {} {}) tells (ran {length} {} {})",
+        bytes(&case.input),
+        tables(&case.tables),
+        bytes(&case.out),
+        tables(&after),
+        bytes(&out),
+    ))
+}
+
+/// Whether the sheet's flips and walks, as far as they can be read, are many together.
+fn walks_long(input: &[u8]) -> bool {
+    let lines = String::from_utf8_lossy(input);
+    let number = |key: &str| {
+        let line = lines.lines().find_map(|line| line.strip_prefix(key));
+        line.and_then(|digits| digits.parse::<u64>().ok())
+            .unwrap_or(0)
+    };
+    number("flips=").saturating_mul(number("walks=")) > FLIPS
+}
+
+fn seen(
+    result: u64,
+    reason: u64,
+    line: u64,
+    walks: u64,
+    flips: u64,
+    left: &Counts,
+    after: &Tables,
+) -> String {
+    format!(
+        "(seen {result} {reason} {line} {walks} {flips} {} {})",
+        counts(left),
+        tables(after)
+    )
+}
+
+fn counts(counts: &Counts) -> String {
+    format!(
+        "(counts {} {} {} {})",
+        counts.terms, counts.clauses, counts.literals, counts.uncovered
+    )
+}
+
+fn tables(tables: &Tables) -> String {
+    let entries: Vec<String> = tables.all().iter().map(|table| list(table)).collect();
+    format!("(lent {})", entries.join(" "))
+}
+
+fn bytes(bytes: &[u8]) -> String {
+    list(
+        &bytes
+            .iter()
+            .map(|byte| u64::from(*byte))
+            .collect::<Vec<u64>>(),
+    )
+}
+
+fn list(entries: &[u64]) -> String {
+    let mut joined: String = entries.iter().map(|entry| format!("{entry} ∷ ")).collect();
+    joined.push_str("[]");
+    format!("({joined})")
+}
