@@ -7,9 +7,8 @@ use native.Mathlib.Omega.{arith}
 use lib.ListN.{length, getD, take, drop}
 use lib.Seq.{length-take-le}
 use lib.Dec.{eqb, ltb}
-use borrow.Author.Tests.{lt-ltb}
+use borrow.Author.Tests.{lt-ltb, eqb-true}
 use Rattle.words.specs.Words.{bitAt}
-use Rattle.words.proofs.Laws.{bit-lt}
 use Rattle.written.specs.declared.Counts.{Counts}
 use Rattle.written.specs.Lists.{total, all, listOf, has, differ, padded}
 use Rattle.written.specs.Limits.{Limits}
@@ -17,14 +16,15 @@ use Rattle.written.specs.Clauses.{termOf}
 use Rattle.written.specs.Tables.{Tables, each, sizes, fullSizes, areFull, startsFrom, placeIn, inUse, over, countsOf, holding}
 use Rattle.written.specs.Agreement.{partOf, fileIn, stateIn, agree}
 use Rattle.laws.specs.Valid.{isClause, Listed, Valid}
-use Rattle.laws.proofs.Basics.{by-cases, eq-of}
+use Rattle.laws.proofs.Basics.{by-cases}
 use Rattle.laws.proofs.Lists.{listFrom-length, listOf-is, getD-listOf}
-use Rattle.laws.proofs.All.{all-getD, all-by, all-listFrom}
+use Rattle.laws.proofs.All.{all-getD, all-by}
+use Rattle.laws.proofs.Padding.{over-taken, padded-taken}
+use Rattle.laws.proofs.Parts.{flatten-length, part-length, up-to-last, parts-starts, parts-entries}
+use Rattle.laws.proofs.Values.{values-bits}
 use Rattle.laws.proofs.Each.{Table, at, by-each, each-at, every-at}
 use Rattle.laws.proofs.Each.Table.{Names, Values, Starts, Literals, OccurrenceStarts, Occurrences, Trues, Breaks, Uncovered, Places}
-use Rattle.laws.proofs.Padding.{over-taken, padded-taken}
 use Rattle.laws.proofs.Counted.{listed-by, listed-has}
-use Rattle.laws.proofs.Parts.{flatten-length, part-length, up-to-last, parts-starts, parts-entries}
 use Rattle.laws.proofs.Sizes.{sizes-fit}
 use Rattle.laws.proofs.Holding.{full-at, tables-at, holding-at}
 use Rattle.laws.proofs.Points.{Points, agree-points}
@@ -110,7 +110,7 @@ module _ (lim : Limits) (n : Counts) (t : Tables) (ok : agree lim n t ≡ true) 
 
   bits : all (λ v. ltb v 2) (stateIn n t .values) ≡ true
   unfolding stateIn bitAt
-  bits = all-listFrom (λ v. ltb v 2) 0 (n .terms) (bitAt (t .values)) (λ k. lt-ltb (bitAt (t .values) k) 2 (bit-lt _ _))
+  bits = values-bits (n .terms) (t .values)
 
   -- the state is valid
   pub agree-valid : Valid lim (stateIn n t)
@@ -135,7 +135,7 @@ module _ (lim : Limits) (n : Counts) (t : Tables) (ok : agree lim n t ≡ true) 
   unfolding placeIn
   place-at c l =
       by-cases (has c (stateIn n t .uncovered)) (λ e. rw e (sym (points .place c (sym (listed-has (stateIn n t) listed c) ∙ e))))
-      (λ e. rw e (sym (eq-of (getD (each take (sizes n) t .places) c 0) 0 (rw e at (points .no-place c l)))))
+      (λ e. rw e (sym (eqb-true (getD (each take (sizes n) t .places) c 0) 0 (rw e at (points .no-place c l)))))
 
   -- what is in use is what the state has in use
   pub agree-used : (k : Table) → at k (inUse (stateIn n t)) ≡ at k (each take (sizes n) t)

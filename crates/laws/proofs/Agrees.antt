@@ -1,10 +1,9 @@
 -- Tables into which a valid state is written agree, and no others do. Assumes nothing.
-use Prim.Native.Nat.{ℕ, suc, _+_, _-_, _*_, _<_}
+use Prim.Native.Nat.{ℕ, _+_, _-_, _*_, _<_}
 use mathlib.Core.Logic.{_↔_}
 use mathlib.Core.Path.{_≡_, refl, ap, sym, subst₂, _∙_}
 use mathlib.Core.Bool.{true, cond, _&&_}
 use mathlib.Core.List.{[], map}
-use native.Mathlib.Numerals.{add-one}
 use native.Mathlib.Omega.{arith}
 use lib.ListN.{length, getD, take, drop}
 use lib.Seq.{getD-take}
@@ -20,9 +19,9 @@ use Rattle.laws.specs.Valid.{isClause, Valid}
 use Rattle.laws.proofs.Basics.{by-cases, both}
 use Rattle.laws.proofs.Lists.{getD-listOf}
 use Rattle.laws.proofs.All.{all-getD, all-by, all-zeros}
-use Rattle.laws.proofs.Each.{at, each-at, every-all}
 use Rattle.laws.proofs.Padding.{padded-drop}
 use Rattle.laws.proofs.Parts.{starts-first, starts-step, starts-last}
+use Rattle.laws.proofs.Each.{at, each-at, every-all}
 use Rattle.laws.proofs.Counted.{listed-length, listed-has, listed-once, uncovered-below}
 use Rattle.laws.proofs.Sizes.{clause-some, clause-below, clause-differs, in-use, valid-fit}
 use Rattle.laws.proofs.Holding.{tables-at, holding-take, holding-used}
@@ -41,7 +40,6 @@ module _ (lim : Limits) (s : State) (t : Tables) (v : Valid lim s) where
   rise k l =
       let a = start-at k (omega arith) in
       let b = start-at (k + 1) (omega arith) in
-      let c : getD (startsFrom 0 (s .file .clauses)) (k + 1) 0 ≡ getD (startsFrom 0 (s .file .clauses)) (suc k) 0 = ap (λ j. getD (startsFrom 0 (s .file .clauses)) j 0) (add-one k) in
       let d = starts-step 0 (s .file .clauses) k l in
       let n = length (s .file .names) in
       let ls = getD (s .file .clauses) k [] in
@@ -103,10 +101,6 @@ pub holding-agrees : (lim : Limits) (s : State) (t : Tables) → Valid lim s →
 holding-agrees lim s t v =
     points-agree lim (countsOf s) (holding lim s t)
     (subst₂ (λ r u. Points lim (countsOf s) (holding lim s t) r u) (sym (holding-back lim s t v)) (sym (holding-used lim s t v)) (points lim s t v))
-
--- the state that stands alone in tables is the one that they hold
-pub held-is : (lim : Limits) (s : State) (n : Counts) (t : Tables) → Valid lim s → countsOf s ≡ n → holding lim s t ≡ t → stateIn n t ≡ s
-held-is lim s n t v e h = rw (← e, ← h) (holding-back lim s t v)
 
 -- full tables agree exactly where some valid state stands alone in them
 pub agree-exactly : (lim : Limits) (n : Counts) (t : Tables) → areFull lim t ≡ true

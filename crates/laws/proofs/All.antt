@@ -6,10 +6,10 @@ use mathlib.Core.List.{List, [], _∷_, _++_}
 use native.Mathlib.Omega.{arith}
 use lib.ListN.{length, getD, set, take, drop}
 use lib.Dec.{eqb}
+use borrow.Author.Tests.{eq-eqb, eqb-true}
 use Rattle.written.specs.Lists.{all, below, has, listFrom, same, zeros}
-use borrow.Author.Tests.{eq-eqb}
-use Rattle.laws.proofs.Basics.{by-cases, both, both-first, both-second, eq-of}
-use Rattle.laws.proofs.Lists.{listFrom-getD, listFrom-length}
+use Rattle.laws.proofs.Basics.{by-cases, both, both-first, both-second}
+use Rattle.laws.proofs.Lists.{listFrom-length, getD-listOf}
 
 -- the entries of two lists pass a test together
 pub all-append : {A : Type 0} (p : A → Bool) (xs ys : List A) → all p (xs ++ ys) ≡ (all p xs && all p ys)
@@ -55,18 +55,12 @@ all-by p (x ∷ xs) d h = both (p x) _ (h 0 (omega arith)) (all-by p xs d (λ k 
 -- of every number below n
 pub all-below : (p : ℕ → Bool) (n k : ℕ) → k < n → all p (below n) ≡ true → p k ≡ true
 all-below p n k l h =
-    let a = listFrom-length 0 n (λ (j : ℕ). j) in
-    let e : getD (below n) k 0 ≡ k = listFrom-getD 0 n k (λ j. j) 0 l ∙ (omega arith) in
-    rw e at (all-getD p (below n) k 0 (omega arith) h)
+    rw (getD-listOf n k (λ j. j) 0 l) at (all-getD p (below n) k 0 (omega (arith, listFrom-length 0 n (λ (j : ℕ). j))) h)
 
 pub below-all : (p : ℕ → Bool) (n : ℕ) → ((k : ℕ) → k < n → p k ≡ true) → all p (below n) ≡ true
 below-all p n h =
     all-by p (below n) 0
-    (λ k l.
-    let a = listFrom-length 0 n (λ (j : ℕ). j) in
-    let b : k < n = omega arith in
-    let e : getD (below n) k 0 ≡ k = listFrom-getD 0 n k (λ j. j) 0 b ∙ (omega arith) in
-    rw e (h k b))
+    (λ k l. let b : k < n = omega (arith, listFrom-length 0 n (λ (j : ℕ). j)) in rw (getD-listOf n k (λ j. j) 0 b) (h k b))
 
 -- of every entry that a list is made of
 pub all-listFrom : {A : Type 0} (p : A → Bool) (i n : ℕ) (f : ℕ → A) → ((k : ℕ) → p (f k) ≡ true) → all p (listFrom i n f) ≡ true
@@ -82,7 +76,7 @@ all-zeros p h (suc n) = both (p 0) (all p (zeros n)) h (all-zeros p h n)
 pub all-has : (p : ℕ → Bool) (xs : List ℕ) (x : ℕ) → has x xs ≡ true → all p xs ≡ true → p x ≡ true
 all-has p [] x m h = absurd (false≢true m)
 all-has p (y ∷ ys) x m h =
-    by-cases (eqb x y) (λ e. rw (eq-of x y e) (both-first (p y) _ h)) (λ e. all-has p ys x (rw e at m) (both-second (p y) _ h))
+    by-cases (eqb x y) (λ e. rw (eqb-true x y e) (both-first (p y) _ h)) (λ e. all-has p ys x (rw e at m) (both-second (p y) _ h))
 
 pub has-all : (p : ℕ → Bool) (xs : List ℕ) → ((x : ℕ) → has x xs ≡ true → p x ≡ true) → all p xs ≡ true
 has-all p [] h = refl

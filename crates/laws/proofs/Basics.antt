@@ -1,15 +1,24 @@
 -- Cases and tests: what every other law leans on. Assumes nothing.
-use Prim.Native.Nat.{ℕ, _-_}
-use mathlib.Core.Path.{_≡_, refl, ap₂, sym, subst}
+use Prim.Native.Nat.{ℕ, _≤_, _<_}
+use mathlib.Core.Path.{_≡_, refl, ap₂}
 use mathlib.Core.Bool.{Bool, true, false, cond, _&&_, _||_, false≢true, true≢false}
 use mathlib.Core.List.{List, [], _∷_}
-use lib.Dec.{eqb, eqb→eq, T}
+use native.Mathlib.Omega.{arith}
+use lib.Dec.{eqb, ltb}
+use borrow.Author.Tests.{eqb-true, eqb-false, ltb-true, ltb-false}
 use Rattle.written.specs.Lists.{same}
 
 -- the two cases of a test
 pub by-cases : {A : Type 0} (b : Bool) → (b ≡ true → A) → (b ≡ false → A) → A
 by-cases true f g = f refl
 by-cases false f g = g refl
+
+-- by whether two numbers are equal, and by which is the less
+pub by-eq : {A : Type 0} (m n : ℕ) → (m ≡ n → A) → ((m ≡ n → ⊥) → A) → A
+by-eq m n f g = by-cases (eqb m n) (λ e. f (eqb-true m n e)) (λ e. g (eqb-false m n e))
+
+pub by-lt : {A : Type 0} (m n : ℕ) → (m < n → A) → (n ≤ m → A) → A
+by-lt m n f g = by-cases (ltb m n) (λ e. f (ltb-true m n e)) (λ e. g (ltb-false m n e))
 
 -- what is chosen by a test, in both cases
 pub by-test : {A : Type 0} (P : A → Type 0) (b : Bool) {x y : A} → (b ≡ true → P x) → (b ≡ false → P y) → P (cond b x y)
@@ -37,10 +46,6 @@ pub neither-second : (a b : Bool) → (a || b) ≡ false → b ≡ false
 neither-second true b h = absurd (true≢false h)
 neither-second false b h = h
 
--- a test that holds, as an equation
-pub eq-of : (x y : ℕ) → eqb x y ≡ true → x ≡ y
-eq-of x y e = eqb→eq x y (subst T (sym e) tt)
-
 -- the two lists that `same` takes for the same are the same
 pub same-eq : (xs ys : List ℕ) → same xs ys ≡ true → xs ≡ ys
 same-eq [] [] h = refl
@@ -49,7 +54,7 @@ same-eq (x ∷ xs) [] h = absurd (false≢true h)
 same-eq (x ∷ xs) (y ∷ ys) h = cons (eqb x y) refl (same-eq xs ys) h
   where
     cons : (b : Bool) → eqb x y ≡ b → (same xs ys ≡ true → xs ≡ ys) → (b && same xs ys) ≡ true → x ∷ xs ≡ y ∷ ys
-    cons true e rest k = ap₂ {C = List ℕ} (λ a r. a ∷ r) (eq-of x y e) (rest k)
+    cons true e rest k = ap₂ {C = List ℕ} (λ a r. a ∷ r) (eqb-true x y e) (rest k)
     cons false e rest k = absurd (false≢true k)
 
 -- a test counted as 1 or 0
@@ -58,3 +63,7 @@ one-if b e = rw e
 
 pub none-if : (b : Bool) → b ≡ false → _≡_ {A = ℕ} (cond b 1 0) 0
 none-if b e = rw e
+
+pub one-most : (b : Bool) → cond b 1 0 ≤ 1
+one-most true = omega arith
+one-most false = omega arith

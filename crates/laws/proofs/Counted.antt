@@ -1,49 +1,53 @@
 -- The uncovered list counted against the clauses that stand uncovered. Assumes nothing.
 use Prim.Native.Nat.{ℕ, _≤_, _<_}
-use mathlib.Core.Path.{_≡_, ap, sym, _∙_}
-use mathlib.Core.Bool.{true, cond}
-use mathlib.Core.List.{List}
+use mathlib.Core.Path.{_≡_, refl, ap, sym, _∙_}
+use mathlib.Core.Bool.{Bool, true, false, cond, _&&_}
+use mathlib.Core.List.{List, []}
 use native.Mathlib.Omega.{arith}
-use lib.ListN.{length}
+use lib.ListN.{length, getD}
 use lib.Dec.{ltb}
 use borrow.Author.Tests.{ltb-true, ltb-false}
 use Rattle.written.specs.Lists.{has, times}
 use Rattle.written.specs.Clauses.{State, isUncovered, uncoveredIn}
 use Rattle.laws.specs.Valid.{Listed}
-use Rattle.laws.proofs.Basics.{by-cases}
-use Rattle.laws.proofs.Sums.{total-le, total-ones}
-use Rattle.laws.proofs.Times.{has-is, has-times, where-length, where-after, where-once, reordered-length, same-times}
+use Rattle.laws.proofs.Basics.{by-cases, both-first, one-most}
+use Rattle.laws.proofs.Sums.{total-most}
+use Rattle.laws.proofs.Times.{has-is, has-times, where-length, reordered-length, same-times}
+use Rattle.laws.proofs.Uncovered.{times-uncovered}
+
+-- a test counted as 1 or 0
+one-some : (b : Bool) → ltb 0 (cond b 1 0) ≡ b
+one-some true = refl
+one-some false = refl
 
 -- at most as many as there are clauses, each once
 pub uncovered-few : (vs : List ℕ) (cs : List (List ℕ)) → length (uncoveredIn vs cs) ≤ length cs
 unfolding uncoveredIn
-uncovered-few vs cs =
-    let a = where-length 0 (isUncovered vs) cs in
-    let b = total-le (λ ls. cond (isUncovered vs ls) 1 0) (λ ls. 1) cs
-    (λ ls. by-cases (isUncovered vs ls) (λ e. rw e (omega arith)) (λ e. rw e (omega arith))) in
-    let c = total-ones cs in
-    omega arith
+uncovered-few vs cs = omega (arith, where-length 0 (isUncovered vs) cs, total-most (λ ls. cond (isUncovered vs ls) 1 0) (λ ls. one-most (isUncovered vs ls)) cs)
 
 pub uncovered-once : (vs : List ℕ) (cs : List (List ℕ)) (c : ℕ) → times c (uncoveredIn vs cs) ≤ 1
-unfolding uncoveredIn
-uncovered-once vs cs c = where-once c 0 (isUncovered vs) cs
+uncovered-once vs cs c = rw (times-uncovered vs cs c) (one-most (ltb c (length cs) && isUncovered vs (getD cs c [])))
 
--- and each a clause
+-- and those that stand uncovered
+pub uncovered-has : (vs : List ℕ) (cs : List (List ℕ)) (c : ℕ) → has c (uncoveredIn vs cs) ≡ (ltb c (length cs) && isUncovered vs (getD cs c []))
+uncovered-has vs cs c = has-is c (uncoveredIn vs cs) ∙ ap (λ n. ltb 0 n) (times-uncovered vs cs c) ∙ one-some (ltb c (length cs) && isUncovered vs (getD cs c []))
+
 pub uncovered-below : (vs : List ℕ) (cs : List (List ℕ)) (c : ℕ) → has c (uncoveredIn vs cs) ≡ true → c < length cs
-unfolding uncoveredIn
-uncovered-below vs cs c m =
-    by-cases (ltb c (length cs)) (λ e. ltb-true c (length cs) e)
-    (λ e.
-    let a = ltb-false c (length cs) e in
-    absurd (omega (arith, has-times c (uncoveredIn vs cs) m, where-after c 0 (isUncovered vs) cs (omega arith))))
+uncovered-below vs cs c m = ltb-true c (length cs) (both-first _ _ (sym (uncovered-has vs cs c) ∙ m))
 
 module _ (s : State) (h : Listed s) where
   pub listed-length : length (s .uncovered) ≡ length (uncoveredIn (s .values) (s .file .clauses))
   listed-length = reordered-length (s .uncovered) (uncoveredIn (s .values) (s .file .clauses)) (h .same-times)
 
+  pub listed-few : length (s .uncovered) ≤ length (s .file .clauses)
+  listed-few = omega (arith, listed-length, uncovered-few (s .values) (s .file .clauses))
+
   -- a clause is listed where it stands uncovered
   pub listed-has : (c : ℕ) → has c (s .uncovered) ≡ has c (uncoveredIn (s .values) (s .file .clauses))
   listed-has c = has-is c (s .uncovered) ∙ ap (λ n. ltb 0 n) (h .same-times c) ∙ sym (has-is c (uncoveredIn (s .values) (s .file .clauses)))
+
+  pub listed-at : (c : ℕ) → has c (s .uncovered) ≡ (ltb c (length (s .file .clauses)) && isUncovered (s .values) (getD (s .file .clauses) c []))
+  listed-at c = listed-has c ∙ uncovered-has (s .values) (s .file .clauses) c
 
   -- and then once
   pub listed-once : (c : ℕ) → has c (uncoveredIn (s .values) (s .file .clauses)) ≡ true → times c (s .uncovered) ≡ 1

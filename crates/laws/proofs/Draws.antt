@@ -13,7 +13,7 @@ use Rattle.words.specs.Words.{stateAfter, wordCount}
 use Rattle.written.specs.declared.Order.{Order}
 use Rattle.written.specs.Clauses.{File, State}
 use Rattle.written.specs.Drawing.{Pick, choice, heads, chosenFrom, startState}
-use Rattle.written.specs.Walk.{Moment, start, step, onwards, leastBreak, atLeast, oneOf, afterHeads, literalIn, flipPicked, inClause, walksFrom, walkOver}
+use Rattle.written.specs.Walk.{Moment, start, step, onwards, leastBreak, atLeast, oneOf, afterHeads, literalIn, flipPicked, inClause, walkOver}
 use Rattle.laws.proofs.Basics.{by-test}
 use Rattle.laws.proofs.Walks.{begun}
 use Rattle.laws.proofs.Endings.{onwards-keeps, walks-keep}
@@ -73,9 +73,6 @@ choice-pos = choice-keeps (λ y. 0 < y) next-pos
 pub heads-pos : (bias y : ℕ) → 0 < y → 0 < headsOf bias y .next .state
 heads-pos = heads-keeps (λ y. 0 < y) next-pos
 
-pub one-pos : (o : Order) (xs : List ℕ) (y : ℕ) → 0 < y → 0 < oneOf o xs y .state
-one-pos = one-keeps (λ y. 0 < y) next-pos
-
 pub literal-pos : (o : Order) (s : State) (ls : List ℕ) (y : ℕ) → 0 < y → 0 < literalIn o s ls y .state
 literal-pos = literal-keeps (λ y. 0 < y) next-pos
 
@@ -90,9 +87,6 @@ start-pos = start-keeps (λ y. 0 < y) next-pos
 
 pub onwards-pos : (o : Order) (k : ℕ) (m : Moment) → 0 < m .generator → 0 < onwards o k m .generator
 onwards-pos o = onwards-keeps (λ m. 0 < m .generator) o (λ m q h. step-pos o m h)
-
-pub walks-pos : (o : Order) (k n : ℕ) (m : Moment) → 0 < m .generator → 0 < walksFrom o k n m .last .generator
-walks-pos o = walks-keep (λ m. 0 < m .generator) o (λ m q h. step-pos o m h) start-pos
 
 -- from a seed that is not 0 the walks end at a state that is not 0
 pub end-pos : (o : Order) (f : File) → 0 < o .seed → 0 < walkOver o f .last .generator

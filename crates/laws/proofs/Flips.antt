@@ -2,16 +2,11 @@
 use Prim.Native.Nat.{ℕ, _-_}
 use mathlib.Core.Path.{_≡_, refl}
 use mathlib.Core.List.{List, [], _∷_, _++_}
-use lib.ListN.{length, getD, length-set}
 use Rattle.written.specs.Clauses.{State}
-use Rattle.written.specs.Flips.{flip, flipped, turned}
+use Rattle.written.specs.Flips.{flip, flipped}
 use Rattle.laws.proofs.Lists.{steps-joined}
 
--- a flip keeps the file and the number of values
-pub flip-values : (t : ℕ) (s : State) → length (flip t s .values) ≡ length (s .values)
-unfolding flip turned
-flip-values t s = length-set (s .values) t (1 - getD (s .values) t 0)
-
+-- flips keep the file
 pub flipped-file : (ts : List ℕ) (s : State) → flipped ts s .file ≡ s .file
 unfolding flipped flip
 flipped-file [] s = refl

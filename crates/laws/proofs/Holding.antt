@@ -2,8 +2,9 @@
 use Prim.Native.Nat.{ℕ, _≤_}
 use mathlib.Core.Path.{_≡_, refl, ap, sym, _∙_}
 use mathlib.Core.Bool.{true}
+use mathlib.Core.List.{List}
 use native.Mathlib.Omega.{arith}
-use lib.ListN.{length, take, drop, length-replicate}
+use lib.ListN.{length, getD, take, drop, length-replicate}
 use lib.Seq.{take-append-le}
 use lib.Dec.{leb}
 use borrow.Author.Tests.{leb-true, le-leb}
@@ -13,8 +14,8 @@ use Rattle.written.specs.Clauses.{State}
 use Rattle.written.specs.Tables.{Tables, each, sizes, fullSizes, areFull, countsOf, inUse, tablesOf, over, holding, cleared}
 use Rattle.laws.specs.Valid.{Valid}
 use Rattle.laws.proofs.Lists.{padded-length, over-length}
+use Rattle.laws.proofs.Padding.{over-take, over-over, padded-take, over-sizes, over-same}
 use Rattle.laws.proofs.Each.{Table, at, by-each, each-at, every-all, every-at}
-use Rattle.laws.proofs.Padding.{over-take, over-over, padded-take}
 use Rattle.laws.proofs.Sizes.{in-use, valid-fit, sizes-fit}
 
 -- ---- one table at a time
@@ -97,30 +98,58 @@ holding-used lim s t v =
     ∙ take-append-le n (at k (tablesOf lim s)) (drop (length (at k (tablesOf lim s))) (at k t)) (omega arith)
     ∙ sym (each-at take k (sizes (countsOf s)) (tablesOf lim s)) ∙ ap (at k) (tables-used lim s v))
 
--- what is written last stands alone
-pub holding-again : (lim : Limits) (s r : State) (t : Tables) → Valid lim s → Valid lim r → holding lim s (holding lim r t) ≡ holding lim s t
-holding-again lim s r t v w =
+-- what is written last, table by table as long, stands alone
+over-each : (a b t : Tables) → ((k : Table) → length (at k a) ≡ length (at k b)) → each over a (each over b t) ≡ each over a t
+over-each a b t h =
     by-each _ _
-    (λ k. holding-at lim s (holding lim r t) k ∙ ap (over (at k (tablesOf lim s))) (holding-at lim r t k)
-    ∙ over-over (at k (tablesOf lim s)) (at k (tablesOf lim r)) (at k t) (tables-length lim s k v ∙ sym (tables-length lim r k w))
-    ∙ sym (holding-at lim s t k))
+    (λ k. each-at over k a (each over b t) ∙ ap (over (at k a)) (each-at over k b t) ∙ over-over (at k a) (at k b) (at k t) (h k) ∙ sym (each-at over k a t))
+
+zeroTables : Limits → Tables
+zeroTables lim = each (λ n m. zeros n) (fullSizes lim) (fullSizes lim)
+
+zero-at : (lim : Limits) (k : Table) → at k (zeroTables lim) ≡ zeros (at k (fullSizes lim))
+unfolding zeroTables
+zero-at lim k = each-at (λ n m. zeros n) k (fullSizes lim) (fullSizes lim)
+
+zero-length : (lim : Limits) (k : Table) → length (at k (zeroTables lim)) ≡ at k (fullSizes lim)
+zero-length lim k = ap length (zero-at lim k) ∙ length-replicate {A = ℕ} (at k (fullSizes lim)) 0
+
+cleared-over : (lim : Limits) (t : Tables) → cleared lim t ≡ each over (zeroTables lim) t
+cleared-over lim t =
+    by-each _ _ (λ k. cleared-at lim t k ∙ sym (each-at over k (zeroTables lim) t ∙ ap (λ (z : List ℕ). over z (at k t)) (zero-at lim k)))
+
+pub holding-again : (lim : Limits) (s r : State) (t : Tables) → Valid lim s → Valid lim r → holding lim s (holding lim r t) ≡ holding lim s t
+unfolding holding
+holding-again lim s r t v w = over-each (tablesOf lim s) (tablesOf lim r) t (λ k. tables-length lim s k v ∙ sym (tables-length lim r k w))
 
 pub holding-cleared : (lim : Limits) (s : State) (t : Tables) → Valid lim s → holding lim s (cleared lim t) ≡ holding lim s t
+unfolding holding
 holding-cleared lim s t v =
-    by-each _ _
-    (λ k. holding-at lim s (cleared lim t) k ∙ ap (over (at k (tablesOf lim s))) (cleared-at lim t k)
-    ∙ over-over (at k (tablesOf lim s)) (zeros (at k (fullSizes lim))) (at k t) (tables-length lim s k v ∙ sym (length-replicate {A = ℕ} (at k (fullSizes lim)) 0))
-    ∙ sym (holding-at lim s t k))
+    ap (each over (tablesOf lim s)) (cleared-over lim t) ∙ over-each (tablesOf lim s) (zeroTables lim) t (λ k. tables-length lim s k v ∙ sym (zero-length lim k))
 
 pub cleared-holding : (lim : Limits) (s : State) (t : Tables) → Valid lim s → cleared lim (holding lim s t) ≡ cleared lim t
+unfolding holding
 cleared-holding lim s t v =
-    by-each _ _
-    (λ k. cleared-at lim (holding lim s t) k ∙ ap (over (zeros (at k (fullSizes lim)))) (holding-at lim s t k)
-    ∙ over-over (zeros (at k (fullSizes lim))) (at k (tablesOf lim s)) (at k t) (length-replicate {A = ℕ} (at k (fullSizes lim)) 0 ∙ sym (tables-length lim s k v))
-    ∙ sym (cleared-at lim t k))
+    cleared-over lim (holding lim s t) ∙ over-each (zeroTables lim) (tablesOf lim s) t (λ k. zero-length lim k ∙ sym (tables-length lim s k v)) ∙ sym (cleared-over lim t)
 
 pub cleared-again : (lim : Limits) (t : Tables) → cleared lim (cleared lim t) ≡ cleared lim t
 cleared-again lim t =
-    by-each _ _
-    (λ k. cleared-at lim (cleared lim t) k ∙ ap (over (zeros (at k (fullSizes lim)))) (cleared-at lim t k)
-    ∙ over-over (zeros (at k (fullSizes lim))) (zeros (at k (fullSizes lim))) (at k t) refl ∙ sym (cleared-at lim t k))
+    cleared-over lim (cleared lim t) ∙ ap (each over (zeroTables lim)) (cleared-over lim t) ∙ over-each (zeroTables lim) (zeroTables lim) t (λ k. refl)
+    ∙ sym (cleared-over lim t)
+
+-- two states written over the same tables: as long, and the same past the entries in use of both
+module _ (lim : Limits) (s r : State) (t : Tables) (k : Table) (v : Valid lim s) (w : Valid lim r) where
+  pub holding-sizes : length (at k (holding lim s t)) ≡ length (at k (holding lim r t))
+  holding-sizes =
+      ap length (holding-at lim s t k)
+      ∙ over-sizes (at k (tablesOf lim s)) (at k (tablesOf lim r)) (at k t) (tables-length lim s k v ∙ sym (tables-length lim r k w))
+      ∙ ap length (sym (holding-at lim r t k))
+
+  pub holding-past : (j : ℕ) → at k (sizes (countsOf s)) ≤ j → at k (sizes (countsOf r)) ≤ j → getD (at k (holding lim s t)) j 0 ≡ getD (at k (holding lim r t)) j 0
+  holding-past j ls lr =
+      let a = in-use lim s v k in
+      let b = in-use lim r w k in
+      let c = sizes-fit lim (countsOf s) (valid-fit lim s v) k in
+      let d = sizes-fit lim (countsOf r) (valid-fit lim r w) k in
+      rw (holding-at lim s t k, holding-at lim r t k, tables-at lim s k, tables-at lim r k)
+      (over-same (at k (fullSizes lim)) (at k (inUse s)) (at k (inUse r)) (at k t) j (omega arith) (omega arith) (omega arith) (omega arith))

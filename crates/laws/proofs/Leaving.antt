@@ -1,26 +1,23 @@
 -- The uncovered list as clauses leave and enter it: a sum over it. Assumes nothing.
-use Prim.Native.Nat.{ℕ, zero, suc, _+_, _-_, _≤_, _<_}
+use Prim.Native.Nat.{ℕ, suc, _+_, _-_, _≤_, _<_}
 use mathlib.Core.Path.{_≡_, refl, ap, _∙_}
 use mathlib.Core.Bool.{cond}
 use mathlib.Core.List.{List, [], _∷_}
 use native.Mathlib.Omega.{arith}
 use lib.ListN.{length, getD, set, take, length-set}
-use lib.Seq.{getD-set-same, getD-set-other}
+use lib.Seq.{take-all, getD-set-same, getD-set-other}
 use lib.Dec.{eqb}
-use borrow.Author.Tests.{eqb-true, eqb-false, eq-eqb}
+use borrow.Author.Tests.{eq-eqb}
 use Rattle.written.specs.Lists.{total, placeOf, times, steps}
 use Rattle.written.specs.Flips.{leave, enter}
-use Rattle.laws.proofs.Basics.{by-cases, one-if}
-use Rattle.laws.proofs.Sums.{total-append, total-set}
+use Rattle.laws.proofs.Basics.{by-eq, one-if}
+use Rattle.laws.proofs.Sums.{total-append, total-next, total-set}
 use Rattle.laws.proofs.Membership.{placeOf-lt, placeOf-getD}
 use Rattle.laws.proofs.Times.{times-has}
 
 -- a sum over all but the last entry
 total-front : (h : ℕ → ℕ) (xs : List ℕ) (n : ℕ) → length xs ≡ suc n → total h (take n xs) + h (getD xs n 0) ≡ total h xs
-total-front h [] n e = absurd (omega arith)
-total-front h (x ∷ []) zero e = omega arith
-total-front h (x ∷ y ∷ xs) zero e = absurd (omega arith)
-total-front h (x ∷ xs) (suc n) e = let i = total-front h xs n (omega arith) in omega arith
+total-front h xs n e = omega (arith, total-next h xs n 0 (omega arith), ap (total h) (take-all (suc n) xs (omega arith)))
 
 -- a sum after an entry has left, and after one has entered
 pub total-leave : (h : ℕ → ℕ) (d : ℕ) (us : List ℕ) → 0 < times d us → total h (leave d us) + h d ≡ total h us
@@ -38,7 +35,7 @@ total-leave h d us k =
   where
     last : (us : List ℕ) (p n : ℕ) → p < length us → getD (set us p (getD us n 0)) n 0 ≡ getD us n 0
     last us p n l =
-        by-cases (eqb n p) (λ e. rw (eqb-true n p e) (getD-set-same us p (getD us p 0) 0 l)) (λ e. getD-set-other us p n (getD us n 0) 0 (eqb-false n p e))
+        by-eq n p (λ e. rw e (getD-set-same us p (getD us p 0) 0 l)) (λ e. getD-set-other us p n (getD us n 0) 0 e)
 
 pub total-enter : (h : ℕ → ℕ) (d : ℕ) (us : List ℕ) → total h (enter d us) ≡ total h us + h d
 unfolding enter

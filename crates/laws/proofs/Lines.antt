@@ -3,11 +3,11 @@
 use Prim.Native.Nat.{ℕ, suc, _+_, _-_, _≤_, _<_, _^_}
 use mathlib.Core.Path.{_≡_, refl, ap, _∙_}
 use mathlib.Core.Bool.{Bool, true, false, not, cond, false≢true}
-use mathlib.Core.List.{List, [], _∷_}
+use mathlib.Core.List.{List}
 use native.Mathlib.Omega.{arith}
 use borrow.Author.Tests.{leb-false, eqb-true, not-false}
 use lib.ListN.{length, getD, take}
-use lib.Seq.{take-suc, take-length}
+use lib.Seq.{take-length}
 use lib.Dec.{eqb, ltb, leb}
 use Rattle.scan.specs.declared.Cursor.{Cursor}
 use Rattle.scan.specs.declared.Step.{Step}
@@ -17,7 +17,7 @@ use Rattle.scan.proofs.Laws.{past-ge}
 use Rattle.written.specs.Lists.{times}
 use Rattle.written.specs.Agreement.{isNameByte}
 use Rattle.laws.proofs.Basics.{by-cases, by-test}
-use Rattle.laws.proofs.Sums.{total-append, total-take}
+use Rattle.laws.proofs.Sums.{total-next, total-take}
 use Rattle.laws.proofs.Turns.{inText}
 
 -- ---- bytes 10
@@ -29,7 +29,7 @@ linesTo t i = times 10 (take i t)
 -- a byte 10 ends a line
 pub lines-more : (t : List ℕ) (a d : ℕ) → a < length t → getD t a d ≡ 10 → linesTo t (suc a) ≡ suc (linesTo t a)
 lines-more t a d h e =
-    let parts = ap (λ (l : List ℕ). times 10 l) (take-suc t a d h) ∙ total-append (λ y. cond (eqb 10 y) 1 0) (take a t) (getD t a d ∷ []) in
+    let parts = total-next (λ y. cond (eqb 10 y) 1 0) t a d h in
     let one : _≡_ {A = ℕ} (cond (eqb 10 (getD t a d)) 1 0) 1 = rw e in
     omega arith
 

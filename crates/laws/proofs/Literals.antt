@@ -1,17 +1,18 @@
 -- Terms and their literals, and what a turned term does to these and to the clauses in which they stand. Assumes nothing.
-use Prim.Native.Nat.{ℕ, suc, _+_, _-_, _*_, _%_, _≤_, _<_}
+use Prim.Native.Nat.{ℕ, _+_, _-_, _*_, _%_, _≤_, _<_}
 use mathlib.Core.Path.{_≡_, refl, ap, sym, _∙_}
 use mathlib.Core.Bool.{Bool, true, false, not, false≢true}
 use mathlib.Core.List.{List, [], _∷_, map}
 use native.Mathlib.Omega.{arith}
 use lib.ListN.{length, getD}
 use lib.Dec.{eqb}
-use borrow.Author.Tests.{eqb-true, eqb-false, ne-eqb, eq-eqb, not-true}
-use Rattle.written.specs.Lists.{total, has, differ}
+use borrow.Author.Tests.{eqb-true, eqb-false, ne-eqb, eq-eqb}
+use Rattle.written.specs.Lists.{total, has, placeOf, differ}
 use Rattle.written.specs.Clauses.{literalOf, termOf, valueOf, trueCount, isUncovered}
 use Rattle.written.specs.Flips.{turned, falseLiteral, trueLiteral}
-use Rattle.laws.proofs.Basics.{by-cases, both-first, both-second, neither-first, neither-second}
-use Rattle.laws.proofs.Membership.{has-map}
+use Rattle.laws.proofs.Basics.{by-cases, neither-first, neither-second}
+use Rattle.laws.proofs.Sums.{total-has}
+use Rattle.laws.proofs.Membership.{differ-first, differ-rest, placeOf-lt, placeOf-getD, differ-apart}
 use Rattle.laws.proofs.Turning.{turned-same, turned-other}
 
 -- ---- terms and their literals
@@ -31,6 +32,10 @@ pub other-term : (k x : ℕ) (b : Bool) → (literalOf k b ≡ x → ⊥) → (l
 unfolding termOf literalOf
 other-term k x true n m e = omega arith
 other-term k x false n m e = omega arith
+
+pub value-le : (vs : List ℕ) (l : ℕ) → valueOf vs l ≤ 1
+unfolding valueOf
+value-le vs l = omega arith
 
 -- a line that has neither of a term's two literals has not the term
 pub new-term : (k : ℕ) (b : Bool) (ls : List ℕ) → has (literalOf k b) ls ≡ false → has (literalOf k (not b)) ls ≡ false → has k (map termOf ls) ≡ false
@@ -74,6 +79,14 @@ pub true-term : (vs : List ℕ) (t : ℕ) → getD vs t 0 < 2 → termOf (trueLi
 unfolding termOf
 true-term vs t b = let e = true-is vs t b in omega arith
 
+pub false-below : (vs : List ℕ) (t n : ℕ) → t < n → falseLiteral vs t < 2 * n
+unfolding falseLiteral
+false-below vs t n h = literal-below t n _ h
+
+pub true-below : (vs : List ℕ) (t n : ℕ) → t < n → trueLiteral vs t < 2 * n
+unfolding trueLiteral
+true-below vs t n h = literal-below t n _ h
+
 -- a literal of t, by the value of t
 value-at : (vs : List ℕ) (t l : ℕ) → termOf l ≡ t → valueOf vs l ≡ (getD vs t 0 + l % 2) % 2
 unfolding valueOf
@@ -105,9 +118,7 @@ module _ (vs : List ℕ) (t : ℕ) (b : getD vs t 0 < 2) where
 
 -- a clause in which a true literal stands is covered
 has-total : (h : ℕ → ℕ) (l : ℕ) (ls : List ℕ) → has l ls ≡ true → h l ≤ total h ls
-has-total h l [] e = absurd (false≢true e)
-has-total h l (k ∷ ls) e =
-    by-cases (eqb l k) (λ q. let r : h l ≡ h k = ap h (eqb-true l k q) in omega arith) (λ q. let i = has-total h l ls (rw q at e) in omega arith)
+has-total h l ls e = rw (placeOf-getD l ls 0 e) at (total-has h ls (placeOf l ls) 0 (placeOf-lt l ls e))
 
 pub covered-by : (vs : List ℕ) (l : ℕ) (ls : List ℕ) → valueOf vs l ≡ 1 → has l ls ≡ true → isUncovered vs ls ≡ false
 unfolding isUncovered trueCount
@@ -122,48 +133,34 @@ without vs t ls b f g =
     (λ e. new-term t true ls (rw e at f) (rw (ne-eqb (getD vs t 0) 0 (λ q. let r = eqb-true (getD vs t 0) 1 e in omega arith)) at g))
     (λ e. new-term t false ls (rw e at f) (rw (eq-eqb (getD vs t 0) 0 (let r = eqb-false (getD vs t 0) 1 e in omega arith)) at g))
 
--- it keeps its true count as t turns
-pub count-kept : (vs : List ℕ) (t : ℕ) (ls : List ℕ) → has t (map termOf ls) ≡ false → trueCount (turned t vs) ls ≡ trueCount vs ls
-unfolding trueCount
-count-kept vs t [] h = refl
-count-kept vs t (l ∷ ls) h =
-    let n = eqb-false t (termOf l) (neither-first (eqb t (termOf l)) (has t (map termOf ls)) h) in
-    let v = value-other vs t l (λ q. n (sym q)) in
-    let i = count-kept vs t ls (neither-second (eqb t (termOf l)) (has t (map termOf ls)) h) in
-    omega arith
+-- literals valued in two ways, b and a, that differ at those of t alone
+module _ (a b : ℕ → ℕ) (t : ℕ) (off : (l : ℕ) → (termOf l ≡ t → ⊥) → b l ≡ a l) where
+  -- a clause without t has as many true ones
+  pub total-kept : (ls : List ℕ) → has t (map termOf ls) ≡ false → total b ls ≡ total a ls
+  total-kept [] h = refl
+  total-kept (l ∷ ls) h =
+      let n = eqb-false t (termOf l) (neither-first (eqb t (termOf l)) (has t (map termOf ls)) h) in
+      omega (arith, off l (λ q. n (sym q)), total-kept ls (neither-second (eqb t (termOf l)) (has t (map termOf ls)) h))
 
+  -- and one with a literal m of t changes as that one does
+  pub total-changed : (m : ℕ) (ls : List ℕ) → termOf m ≡ t → differ (map termOf ls) ≡ true → has m ls ≡ true → total b ls + a m ≡ total a ls + b m
+  total-changed m [] e d h = absurd (false≢true h)
+  total-changed m (l ∷ ls) e d h =
+      by-cases (eqb m l)
+      (λ q.
+      let k = eqb-true m l q in
+      omega (arith, ap a k, ap b k, total-kept ls (rw (sym e ∙ ap termOf k) (differ-first (termOf l) (map termOf ls) d))))
+      (λ q.
+      let k = rw q at h in
+      omega (
+        arith,
+        off l (λ r. differ-apart termOf l ls m d k (e ∙ sym r)),
+        total-changed m ls e (differ-rest (termOf l) (map termOf ls) d) k,
+      ))
+
+-- so it stays uncovered, or covered, as t turns
 pub uncovered-kept : (vs : List ℕ) (t : ℕ) (ls : List ℕ) → getD vs t 0 < 2 → has (falseLiteral vs t) ls ≡ false → has (trueLiteral vs t) ls ≡ false
     → isUncovered (turned t vs) ls ≡ isUncovered vs ls
-unfolding isUncovered
-uncovered-kept vs t ls b f g = ap (λ (n : ℕ). eqb n 0) (count-kept vs t ls (without vs t ls b f g))
-
--- a clause with one literal m of t changes its true count as m changes its value
-pub count-changed : (vs : List ℕ) (t m : ℕ) (ls : List ℕ) → termOf m ≡ t → differ (map termOf ls) ≡ true → has m ls ≡ true
-    → trueCount (turned t vs) ls + valueOf vs m ≡ trueCount vs ls + valueOf (turned t vs) m
-unfolding trueCount
-count-changed vs t m [] e d h = absurd (false≢true h)
-count-changed vs t m (l ∷ ls) e d h =
-    let alone : has (termOf l) (map termOf ls) ≡ false = not-true _ (both-first (not (has (termOf l) (map termOf ls))) (differ (map termOf ls)) d) in
-    by-cases (eqb m l)
-    (λ q.
-    let k = eqb-true m l q in
-    let before : valueOf vs m ≡ valueOf vs l = ap (valueOf vs) k in
-    let after : valueOf (turned t vs) m ≡ valueOf (turned t vs) l = ap (valueOf (turned t vs)) k in
-    let r : termOf l ≡ t = ap termOf (sym k) ∙ e in
-    let i = count-kept vs t ls (rw (← r) alone) in
-    omega arith)
-    (λ q.
-    let k = rw q at h in
-    let i = count-changed vs t m ls e (both-second (not (has (termOf l) (map termOf ls))) (differ (map termOf ls)) d) k in
-    let v = value-other vs t l (λ r. false≢true (sym alone ∙ rw (r ∙ sym e) (has-map termOf m ls k))) in
-    omega arith)
-
--- with the literal that becomes true it has one more, with the one that becomes false one fewer
-module _ (vs : List ℕ) (t : ℕ) (ls : List ℕ) (b : getD vs t 0 < 2) (l : t < length vs) (d : differ (map termOf ls) ≡ true) where
-  pub count-raised : has (falseLiteral vs t) ls ≡ true → trueCount (turned t vs) ls ≡ suc (trueCount vs ls)
-  count-raised h =
-      omega (arith, count-changed vs t (falseLiteral vs t) ls (false-term vs t b) d h, false-before vs t b, false-after vs t b l)
-
-  pub count-lowered : has (trueLiteral vs t) ls ≡ true → trueCount vs ls ≡ suc (trueCount (turned t vs) ls)
-  count-lowered h =
-      omega (arith, count-changed vs t (trueLiteral vs t) ls (true-term vs t b) d h, true-before vs t b, true-after vs t b l)
+unfolding isUncovered trueCount
+uncovered-kept vs t ls b f g =
+    ap (λ (n : ℕ). eqb n 0) (total-kept (valueOf vs) (valueOf (turned t vs)) t (value-other vs t) ls (without vs t ls b f g))

@@ -12,8 +12,8 @@ use Rattle.written.specs.Clauses.{State}
 use Rattle.written.specs.Flips.{turned, flip, flipped}
 use Rattle.laws.specs.Valid.{Bits}
 use Rattle.laws.proofs.Sums.{total-append}
+use Rattle.laws.proofs.Turning.{bit-at, turns-length, turns-count}
 use Rattle.laws.proofs.Flips.{flips-joined}
-use Rattle.laws.proofs.Turning.{bit-at, turns-length, turns-bits, turns-count}
 
 -- a flip list turns the values one after another
 pub flipped-values : (ts : List ℕ) (s : State) → flipped ts s .values ≡ steps turned ts (s .values)
@@ -25,9 +25,6 @@ pub flipped-length : (ts : List ℕ) (s : State) → length (flipped ts s .value
 flipped-length ts s = ap length (flipped-values ts s) ∙ turns-length ts (s .values)
 
 module _ (s : State) (bits : Bits (s .values)) where
-  pub flipped-bits : (ts : List ℕ) → Bits (flipped ts s .values)
-  flipped-bits ts = rw (flipped-values ts s) (turns-bits ts (s .values) bits)
-
   -- each value counts how often its term was named
   pub flipped-value : (ts : List ℕ) (t : ℕ) → t < length (s .values) → getD (flipped ts s .values) t 0 ≡ (getD (s .values) t 0 + times t ts) % 2
   flipped-value ts t l = rw (flipped-values ts s) (turns-count ts (s .values) t (bit-at (s .values) t bits) l)

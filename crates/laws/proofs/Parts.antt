@@ -5,11 +5,12 @@ use mathlib.Core.List.{List, [], _∷_, _++_, flatten, append-assoc}
 use native.Mathlib.Numerals.{add-one}
 use native.Mathlib.Omega.{arith}
 use lib.ListN.{length, getD, take, drop, length-append, length-drop, List·getD-append}
-use lib.Seq.{drop-cons, length-take-le, take-append-seam, drop-append-add, take-add, drop-drop}
+use lib.Seq.{drop-cons, length-take-le, take-length, take-append-seam, drop-append-add, take-add, drop-drop}
 use Rattle.written.specs.Lists.{total, listFrom, listOf}
 use Rattle.written.specs.Tables.{startsFrom}
 use Rattle.written.specs.Agreement.{partOf}
 use Rattle.laws.proofs.Lists.{listOf-is}
+use Rattle.laws.proofs.Sums.{total-next}
 
 -- ---- lengths, and where parts begin
 
@@ -23,29 +24,25 @@ unfolding flatten
 flatten-length [] = refl
 flatten-length (p ∷ ps) = length-append p (flatten ps) ∙ ap (λ n. length p + n) (flatten-length ps)
 
-pub starts-first : (a : ℕ) (ps : List (List ℕ)) → getD (startsFrom a ps) 0 0 ≡ a
+-- part k begins where those before it end
+pub starts-at : (a : ℕ) (ps : List (List ℕ)) (k : ℕ) → k ≤ length ps → getD (startsFrom a ps) k 0 ≡ a + total length (take k ps)
 unfolding startsFrom
-starts-first a [] = refl
-starts-first a (p ∷ ps) = refl
+starts-at a [] zero l = omega arith
+starts-at a [] (suc k) l = absurd (omega arith)
+starts-at a (p ∷ ps) zero l = omega arith
+starts-at a (p ∷ ps) (suc k) l = let r = starts-at (a + length p) ps k (omega arith) in omega arith
 
-pub starts-step : (a : ℕ) (ps : List (List ℕ)) (k : ℕ) → k < length ps → getD (startsFrom a ps) (suc k) 0 ≡ getD (startsFrom a ps) k 0 + length (getD ps k [])
-unfolding startsFrom
-starts-step a [] k l = absurd (omega arith)
-starts-step a (p ∷ ps) zero l = starts-first (a + length p) ps
-starts-step a (p ∷ ps) (suc k) l = starts-step (a + length p) ps k (omega arith)
+pub starts-first : (a : ℕ) (ps : List (List ℕ)) → getD (startsFrom a ps) 0 0 ≡ a
+starts-first a ps = let e = starts-at a ps 0 (omega arith) in omega arith
+
+pub starts-step : (a : ℕ) (ps : List (List ℕ)) (k : ℕ) → k < length ps → getD (startsFrom a ps) (k + 1) 0 ≡ getD (startsFrom a ps) k 0 + length (getD ps k [])
+starts-step a ps k l =
+    omega (arith, starts-at a ps k (omega arith), starts-at a ps (k + 1) (omega arith), ap (λ j. total length (take j ps)) (add-one k), total-next length ps k [] l)
 
 pub starts-last : (a : ℕ) (ps : List (List ℕ)) → getD (startsFrom a ps) (length ps) 0 ≡ a + total length ps
-unfolding startsFrom
-starts-last a [] = omega arith
-starts-last a (p ∷ ps) = let r = starts-last (a + length p) ps in omega arith
+starts-last a ps = starts-at a ps (length ps) (omega arith) ∙ ap (λ qs. a + total length qs) (take-length ps)
 
 -- ---- to cut
-
-starts-after : (a : ℕ) (ps : List (List ℕ)) (k : ℕ) → k < length ps → a ≤ getD (startsFrom a ps) k 0
-unfolding startsFrom
-starts-after a [] k l = absurd (omega arith)
-starts-after a (p ∷ ps) zero l = omega arith
-starts-after a (p ∷ ps) (suc k) l = omega (arith, starts-after (a + length p) ps k (omega arith))
 
 cut-from : (a : ℕ) (ps : List (List ℕ)) (rest : List ℕ) (k : ℕ) → k < length ps
     → take (length (getD ps k [])) (drop (getD (startsFrom a ps) k 0 - a) (flatten ps ++ rest)) ≡ getD ps k []
@@ -56,7 +53,7 @@ cut-from a (p ∷ ps) rest zero l =
     rw (z, append-assoc p (flatten ps) rest) (take-append-seam p (flatten ps ++ rest))
 cut-from a (p ∷ ps) rest (suc k) l =
     let s = getD (startsFrom (a + length p) ps) k 0 in
-    let z : s - a ≡ length p + (s - (a + length p)) = omega (arith, starts-after (a + length p) ps k (omega arith)) in
+    let z : s - a ≡ length p + (s - (a + length p)) = omega (arith, starts-at (a + length p) ps k (omega arith)) in
     rw (z, append-assoc p (flatten ps) rest, drop-append-add p (flatten ps ++ rest)) (cut-from (a + length p) ps rest k (omega arith))
 
 -- the k-th of lists that are laid one after another, whatever follows
@@ -67,7 +64,6 @@ part-back ps more rest k l =
     let a = List·getD-append (startsFrom 0 ps) more 0 k (omega arith) in
     let b = List·getD-append (startsFrom 0 ps) more 0 (k + 1) (omega arith) in
     let c = starts-step 0 ps k l in
-    let d : getD (startsFrom 0 ps) (k + 1) 0 ≡ getD (startsFrom 0 ps) (suc k) 0 = ap (λ j. getD (startsFrom 0 ps) j 0) (add-one k) in
     let e : getD (startsFrom 0 ps ++ more) (k + 1) 0 - getD (startsFrom 0 ps ++ more) k 0 ≡ length (getD ps k []) = omega arith in
     let z : getD (startsFrom 0 ps ++ more) k 0 ≡ getD (startsFrom 0 ps) k 0 - 0 = omega arith in
     ap₂ {C = List ℕ} (λ m j. take m (drop j (flatten ps ++ rest))) e z ∙ cut-from 0 ps rest k l

@@ -5,14 +5,14 @@ use mathlib.Core.Bool.{Bool, true, _&&_, _||_}
 use mathlib.Core.List.{List, map}
 use lib.ListN.{length, getD, take, drop}
 use lib.Dec.{eqb, ltb}
-use borrow.Author.Tests.{ltb-true, leb-true, lt-ltb, le-leb, eq-eqb}
+use borrow.Author.Tests.{ltb-true, leb-true, lt-ltb, le-leb, eq-eqb, eqb-true}
 use Rattle.written.specs.declared.Counts.{Counts}
 use Rattle.written.specs.Lists.{all, has, placeOf, times, differ, same}
 use Rattle.written.specs.Limits.{Limits}
 use Rattle.written.specs.Clauses.{State, termOf, uncoveredIn}
 use Rattle.written.specs.Tables.{Tables, each, every, sizes, fullSizes, inUse}
 use Rattle.written.specs.Agreement.{isName, stateIn, countsFit, namesAgree, startsAgree, literalsAgree, occurrencesAgree, countsAgree, listAgrees, restIsZero, holdsTogether, agree}
-use Rattle.laws.proofs.Basics.{both, both-first, both-second, eq-of, same-eq}
+use Rattle.laws.proofs.Basics.{both, both-first, both-second, same-eq}
 use Rattle.laws.proofs.All.{all-below, below-all, all-has, has-all, same-refl}
 use Rattle.laws.proofs.Sizes.{Fit}
 
@@ -63,17 +63,17 @@ module _ (lim : Limits) (n : Counts) (t : Tables) (s : State) (u : Tables) where
         some = ltb-true _ _ (search (both-first, both-second) depth 10);
         names-valid = search (both-first, both-second) depth 10;
         names-differ = search (both-first, both-second) depth 10;
-        first = eq-of _ _ (search (both-first, both-second) depth 10);
+        first = eqb-true _ _ (search (both-first, both-second) depth 10);
         rise = λ k l. ltb-true _ _ (all-below (λ c. ltb (getD (t .starts) c 0) (getD (t .starts) (c + 1) 0)) (n .clauses) k l (search (both-first, both-second) depth 10));
-        last = eq-of _ _ (search (both-first, both-second) depth 10);
+        last = eqb-true _ _ (search (both-first, both-second) depth 10);
         clauses-valid = search (both-first, both-second) depth 10;
         occurrence-starts = same-eq _ _ (search (both-first, both-second) depth 10);
         occurrences = same-eq _ _ (search (both-first, both-second) depth 10);
         trues = same-eq _ _ (search (both-first, both-second) depth 10);
         breaks = same-eq _ _ (search (both-first, both-second) depth 10);
-        uncovered = eq-of _ _ (search (both-first, both-second) depth 10);
-        once = λ c m. eq-of _ _ (both-first _ _ (listed c m));
-        place = λ c m. eq-of _ _ (both-second (eqb (times c (s .uncovered)) 1) _ (listed c m));
+        uncovered = eqb-true _ _ (search (both-first, both-second) depth 10);
+        once = λ c m. eqb-true _ _ (both-first _ _ (listed c m));
+        place = λ c m. eqb-true _ _ (both-second (eqb (times c (s .uncovered)) 1) _ (listed c m));
         zero-rest = search (both-first, both-second) depth 10;
         words = same-eq _ _ (search (both-first, both-second) depth 10);
         no-place = λ c l. all-below (λ c. has c (s .uncovered) || eqb (getD (u .places) c 0) 0) (n .clauses) c l (search (both-first, both-second) depth 10);

@@ -11,7 +11,7 @@ use Rattle.written.specs.declared.Counts.{Counts}
 use Rattle.written.specs.Lists.{total, all, listOf, below, has, times, differ}
 use Rattle.written.specs.Limits.{Limits}
 use Rattle.written.specs.Clauses.{State, termOf, occurrencesOf}
-use Rattle.written.specs.Tables.{sizes, fullSizes, countsOf, inUse, turnedRound, wordsOf}
+use Rattle.written.specs.Tables.{sizes, fullSizes, countsOf, inUse, turnedRound}
 use Rattle.laws.specs.Valid.{isClause, Valid}
 use Rattle.laws.proofs.Basics.{both-first, both-second}
 use Rattle.laws.proofs.Lists.{listFrom-length}
@@ -19,10 +19,11 @@ use Rattle.laws.proofs.Sums.{total-by, total-swap, total-listFrom}
 use Rattle.laws.proofs.All.{all-getD}
 use Rattle.laws.proofs.Membership.{differ-map}
 use Rattle.laws.proofs.Times.{where-length, times-below, differ-times}
+use Rattle.laws.proofs.Parts.{starts-length, flatten-length}
+use Rattle.laws.proofs.Values.{words-length}
 use Rattle.laws.proofs.Each.{Table, at}
 use Rattle.laws.proofs.Each.Table.{Names, Values, Starts, Literals, OccurrenceStarts, Occurrences, Trues, Breaks, Uncovered, Places}
-use Rattle.laws.proofs.Parts.{starts-length, flatten-length}
-use Rattle.laws.proofs.Counted.{listed-length, uncovered-few}
+use Rattle.laws.proofs.Counted.{listed-few}
 
 -- ---- what a clause is
 
@@ -48,9 +49,9 @@ once-each n ls h =
     (λ k l. sym (differ-times (getD (below (2 * n)) k 0) ls (differ-map termOf ls (clause-differs n ls h))))
     ∙ times-below (2 * n) ls (clause-below n ls h)
 
-pub turned-length : (n : ℕ) (cs : List (List ℕ)) → all (isClause n) cs ≡ true → length (flatten (listOf (2 * n) (occurrencesOf cs))) ≡ total length cs
+round-length : (n : ℕ) (cs : List (List ℕ)) → all (isClause n) cs ≡ true → length (flatten (listOf (2 * n) (occurrencesOf cs))) ≡ total length cs
 unfolding occurrencesOf
-turned-length n cs h =
+round-length n cs h =
     flatten-length (listOf (2 * n) (occurrencesOf cs)) ∙ total-listFrom length (occurrencesOf cs) 0 (2 * n)
     ∙ total-by (λ l. length (occurrencesOf cs l)) (λ l. total (λ ls. cond (has l ls) 1 0) cs) (below (2 * n)) 0
     (λ k l. where-length 0 (has (getD (below (2 * n)) k 0)) cs)
@@ -60,10 +61,6 @@ turned-length n cs h =
 
 -- ---- entries in use
 
-pub words-length : (vs : List ℕ) → length (wordsOf vs) ≡ wordCount (length vs)
-unfolding wordsOf
-words-length vs = listFrom-length 0 (wordCount (length vs)) _
-
 pub in-use : (lim : Limits) (s : State) → Valid lim s → (k : Table) → length (at k (inUse s)) ≡ at k (sizes (countsOf s))
 unfolding inUse sizes countsOf turnedRound
 in-use lim s v Names = refl
@@ -71,7 +68,7 @@ in-use lim s v Values = words-length (s .values) ∙ ap wordCount (v .one-each)
 in-use lim s v Starts = starts-length 0 (s .file .clauses)
 in-use lim s v Literals = flatten-length (s .file .clauses)
 in-use lim s v OccurrenceStarts = starts-length 0 _ ∙ ap (λ n. n + 1) (listFrom-length 0 (2 * length (s .file .names)) (occurrencesOf (s .file .clauses)))
-in-use lim s v Occurrences = turned-length (length (s .file .names)) (s .file .clauses) (v .proper .clauses-valid)
+in-use lim s v Occurrences = round-length (length (s .file .names)) (s .file .clauses) (v .proper .clauses-valid)
 in-use lim s v Trues = length-map (s .file .clauses) _
 in-use lim s v Breaks = listFrom-length 0 (length (s .file .names)) _
 in-use lim s v Uncovered = refl
@@ -93,7 +90,7 @@ valid-fit lim s v =
       terms = v .proper .few-terms;
       clauses = v .proper .few-clauses;
       literals = v .proper .few-literals;
-      uncovered = omega (arith, listed-length s (v .listed), uncovered-few (s .values) (s .file .clauses), v .proper .few-clauses);
+      uncovered = omega (arith, listed-few s (v .listed), v .proper .few-clauses);
     }
 
 pub sizes-fit : (lim : Limits) (n : Counts) → Fit lim n → (k : Table) → at k (sizes n) ≤ at k (fullSizes lim)

@@ -3,7 +3,6 @@ use Prim.Native.Nat.{ℕ, zero, suc, _+_, _-_, _*_, _/_, _%_, _^_, _≤_, _<_, m
 use mathlib.Core.Path.{_≡_, refl, ap, sym, _∙_}
 use mathlib.Core.List.{List, _++_}
 use native.Mathlib.Omega.{arith}
-use native.Mathlib.Decide.{decLt, ℕ-discrete}
 use native.Mathlib.Nat.{mod-lt, lt-of-lt-of-le}
 use lib.ListN.{length, getD, drop, length-replicate, List·getD-eq-default, List·getD-append}
 use lib.Seq.{ext-getD, getD-set-same, getD-set-other}
@@ -11,13 +10,14 @@ use lib.Pow.{pow-mono, pow-pos}
 use Rattle.draw.specs.Xorshift.{nextOf}
 use Rattle.words.specs.Words.{bitOf, bitAt, keepLow, putAt, filled, stateAfter, wordCount}
 use Rattle.words.proofs.Ext.{bit-at, bits-ext}
-use Rattle.words.proofs.Laws.{by-cases, filled-length, filled-term, filled-past}
+use Rattle.words.proofs.Laws.{filled-length, filled-term, filled-past}
 use Rattle.written.specs.Lists.{zeros, padded}
 use Rattle.written.specs.Tables.{wordsOf, over}
 use Rattle.written.specs.Drawing.{draws, startValues}
 use Rattle.laws.specs.Valid.{Bits}
+use Rattle.laws.proofs.Basics.{by-eq, by-lt}
 use Rattle.laws.proofs.Lists.{listFrom-length, getD-listOf, over-length}
-use Rattle.laws.proofs.Padding.{drop-zeros, over-past}
+use Rattle.laws.proofs.Padding.{over-past, drop-zeros}
 use Rattle.laws.proofs.Values.{words-length, words-lt, words-bit, values-bits}
 
 -- ---- draws one after another
@@ -59,10 +59,10 @@ unfolding filled putAt keepLow
 filled-lt ws n y zero j l h = absurd (omega arith)
 filled-lt ws n y (suc k) j l h =
     let w : ℕ = keepLow (n - 32 * k) (stateAfter y (suc k)) in
-    by-cases (ℕ-discrete j k)
+    by-eq j k
     (λ e. rw (e, getD-set-same (filled ws n y k) k w 0 (omega (arith, filled-length ws n y k)))
     (lt-of-lt-of-le (mod-lt (stateAfter y (suc k)) (pow-pos (min (n - 32 * k) 32))) (pow-mono {j = 32} (omega arith))))
-    (λ d. rw (getD-set-other (filled ws n y k) k j w 0 d) (filled-lt ws n y k j (omega arith) (omega (arith, d))))
+    (λ d. rw (getD-set-other (filled ws n y k) k j w 0 d) (filled-lt ws n y k j (omega arith) (omega arith)))
 
 filled-rest : (ws : List ℕ) (n y k j : ℕ) → k ≤ j → getD (filled ws n y k) j 0 ≡ getD ws j 0
 unfolding filled putAt
@@ -72,8 +72,8 @@ filled-rest ws n y (suc k) j h = getD-set-other (filled ws n y k) k j _ 0 (λ e.
 -- every term has its value of the start, and 0 past the last
 filled-value : (ws : List ℕ) (n y t : ℕ) → wordCount n ≤ length ws → t / 32 < wordCount n → bitAt (filled ws n y (wordCount n)) t ≡ getD (startValues n y) t 0
 filled-value ws n y t l h =
-    by-cases (decLt t n) (λ p. filled-term ws n y (wordCount n) t l h p ∙ sym (start-at n y t p))
-    (λ p. filled-past ws n y (wordCount n) t l h (omega (arith, p)) ∙ sym (List·getD-eq-default (startValues n y) 0 {n = t} (omega (arith, p, start-length n y))))
+    by-lt t n (λ p. filled-term ws n y (wordCount n) t l h p ∙ sym (start-at n y t p))
+    (λ p. filled-past ws n y (wordCount n) t l h p ∙ sym (List·getD-eq-default (startValues n y) 0 {n = t} (omega (arith, start-length n y))))
 
 filled-word : (ws : List ℕ) (n y k : ℕ) → wordCount n ≤ length ws → k < wordCount n
     → getD (filled ws n y (wordCount n)) k 0 ≡ getD (wordsOf (startValues n y)) k 0
@@ -88,9 +88,9 @@ filled-start ws n y l =
     let new : List ℕ = wordsOf (startValues n y) in
     let many : length new ≡ wordCount n = words-length (startValues n y) ∙ ap wordCount (start-length n y) in
     ext-getD 0 (filled ws n y (wordCount n)) (over new ws) (filled-length ws n y (wordCount n) ∙ sym (over-length new ws (omega arith)))
-    (λ k p. by-cases (decLt k (length new))
+    (λ k p. by-lt k (length new)
     (λ q. filled-word ws n y k l (omega arith) ∙ sym (List·getD-append new (drop (length new) ws) 0 k q))
-    (λ q. filled-rest ws n y (wordCount n) k (omega (arith, q)) ∙ sym (over-past new ws k (omega (arith, q)))))
+    (λ q. filled-rest ws n y (wordCount n) k (omega arith) ∙ sym (over-past new ws k q)))
 
 -- so in words that were 0
 pub padded-start : (full n y : ℕ) → wordCount n ≤ full → padded full (wordsOf (startValues n y)) ≡ filled (zeros full) n y (wordCount n)

@@ -2,22 +2,22 @@
 -- Assumes nothing.
 use Prim.Native.Nat.{ℕ, zero, suc, _+_, _≤_, _<_}
 use mathlib.Core.Path.{_≡_, refl, ap, sym, _∙_}
-use mathlib.Core.Bool.{Bool, true, false, not, cond, _&&_, false≢true}
+use mathlib.Core.Bool.{Bool, true, false, cond, _&&_, false≢true}
 use mathlib.Core.List.{List, [], _∷_}
 use native.Mathlib.Omega.{arith}
 use lib.ListN.{length, getD}
 use lib.Dec.{eqb, ltb, leb·suc-suc}
-use borrow.Author.Tests.{lt-ltb, le-ltb, ltb-true, eqb-false, eq-eqb, ne-eqb, not-true}
-use Rattle.written.specs.Lists.{total, all, those, whereFrom, listFrom, below, has, times, differ}
-use Rattle.laws.proofs.Basics.{by-cases, both, both-first, both-second, eq-of, one-if, none-if}
-use Rattle.laws.proofs.Lists.{listFrom-getD, listFrom-length}
-use Rattle.laws.proofs.Sums.{total-by, total-ones, total-swap, total-tight}
+use borrow.Author.Tests.{lt-ltb, le-ltb, ltb-true, eqb-false, eq-eqb, ne-eqb, eqb-true}
+use Rattle.written.specs.Lists.{total, all, those, whereFrom, listFrom, below, has, placeOf, times, differ}
+use Rattle.laws.proofs.Basics.{by-cases, both, one-if, none-if, one-most}
+use Rattle.laws.proofs.Lists.{listFrom-length, getD-listOf}
+use Rattle.laws.proofs.Sums.{total-by, total-ones, total-swap, total-tight, total-most}
 use Rattle.laws.proofs.All.{all-getD, all-has, has-all}
+use Rattle.laws.proofs.Membership.{has-getD, differ-first, differ-rest}
 
 -- no entry stands more often than there are entries
 pub times-le : (x : ℕ) (ys : List ℕ) → times x ys ≤ length ys
-times-le x [] = omega arith
-times-le x (y ∷ ys) = let h = times-le x ys in by-cases (eqb x y) (λ e. rw e (omega arith)) (λ e. rw e (omega arith))
+times-le x ys = total-most (λ y. cond (eqb x y) 1 0) (λ y. one-most (eqb x y)) ys
 
 -- to stand in a list is to stand there more than no time
 pub has-is : (x : ℕ) (ys : List ℕ) → has x ys ≡ ltb 0 (times x ys)
@@ -36,13 +36,41 @@ times-has x ys h = has-is x ys ∙ lt-ltb 0 (times x ys) h
 pub differ-times : (x : ℕ) (ys : List ℕ) → differ ys ≡ true → times x ys ≡ cond (has x ys) 1 0
 differ-times x [] h = refl
 differ-times x (y ∷ ys) h =
-    let r = differ-times x ys (both-second (not (has y ys)) _ h) in
+    let r = differ-times x ys (differ-rest y ys h) in
     by-cases (eqb x y)
     (λ e.
-    let m : has x ys ≡ false = rw (eq-of x y e) (not-true (has y ys) (both-first (not (has y ys)) _ h)) in
+    let m : has x ys ≡ false = rw (eqb-true x y e) (differ-first y ys h) in
     let z : times x ys ≡ 0 = rw m at r in
     rw e (omega arith))
     (λ e. rw e (let z : times x ys ≡ cond (has x ys) 1 0 = r in omega arith))
+
+-- what stands at one place and at no other stands once
+times-none : (x : ℕ) (ys : List ℕ) → ((j : ℕ) → j < length ys → getD ys j 0 ≡ x → ⊥) → times x ys ≡ 0
+times-none x [] h = refl
+times-none x (y ∷ ys) h =
+    let r = times-none x ys (λ j l. h (suc j) (omega arith)) in
+    let n = none-if (eqb x y) (ne-eqb x y (λ q. h 0 (omega arith) (sym q))) in
+    omega arith
+
+pub times-once : (x : ℕ) (ys : List ℕ) (p : ℕ) → p < length ys → getD ys p 0 ≡ x → ((j : ℕ) → j < length ys → getD ys j 0 ≡ x → j ≡ p) → times x ys ≡ 1
+times-once x [] p l e h = absurd (omega arith)
+times-once x (y ∷ ys) zero l e h =
+    let r = times-none x ys (λ j lj q. let z = h (suc j) (omega arith) q in omega arith) in
+    let n = one-if (eqb x y) (eq-eqb x y (sym e)) in
+    omega arith
+times-once x (y ∷ ys) (suc p) l e h =
+    let r = times-once x ys p (omega arith) e (λ j lj q. let z = h (suc j) (omega arith) q in omega arith) in
+    let n = none-if (eqb x y) (ne-eqb x y (λ q. let z = h 0 (omega arith) (sym q) in omega arith)) in
+    omega arith
+
+-- where an entry that stands once first stands
+pub placeOf-once : (ys : List ℕ) (j : ℕ) → j < length ys → times (getD ys j 0) ys ≡ 1 → placeOf (getD ys j 0) ys ≡ j
+placeOf-once [] j l h = absurd (omega arith)
+placeOf-once (y ∷ ys) zero l h = rw (eq-eqb y y refl)
+placeOf-once (y ∷ ys) (suc j) l h =
+    by-cases (eqb (getD ys j 0) y)
+    (λ e. let n = one-if _ e in absurd (omega (arith, has-times (getD ys j 0) ys (has-getD ys j 0 (omega arith)))))
+    (λ e. let n = none-if _ e in rw e (ap suc (placeOf-once ys j (omega arith) (omega arith))))
 
 -- ---- among the entries that pass a test
 
@@ -93,25 +121,6 @@ times-where p i (suc c) (x ∷ xs) d =
     let j : times (i + suc c) (whereFrom (suc i) p xs) ≡ cond (ltb c (length xs) && p (getD xs c d)) 1 0 = rw m k in
     rw (leb·suc-suc (suc c) (length xs)) (by-cases (p x) (λ e. rw e omega arith) (λ e. rw e j))
 
-pub where-after : {A : Type 0} (c i : ℕ) (p : A → Bool) (xs : List A) → i + length xs ≤ c → times c (whereFrom i p xs) ≡ 0
-where-after c i p [] l = refl
-where-after c i p (x ∷ xs) l =
-    let r = where-after c (suc i) p xs (omega arith) in
-    by-cases (p x) (λ e. rw (e, ne-eqb c i (λ q. omega arith)) (omega arith)) (λ e. rw e r)
-
--- each once
-pub where-once : {A : Type 0} (c i : ℕ) (p : A → Bool) (xs : List A) → times c (whereFrom i p xs) ≤ 1
-where-once c i p [] = omega arith
-where-once c i p (x ∷ xs) =
-    let r = where-once c (suc i) p xs in
-    by-cases (p x)
-    (λ e.
-    rw e
-    (by-cases (eqb c i)
-    (λ q. let z = eq-of c i q in let w = times-before p (suc i) c xs (omega arith) in rw q (omega arith))
-    (λ q. rw q (omega arith))))
-    (λ e. rw e r)
-
 -- ---- counted over numbers
 
 -- a number stands once among those below another
@@ -122,7 +131,7 @@ none-before i (suc n) x h = rw (ne-eqb i x (λ e. omega arith)) (let z = none-be
 one-among : (i n x : ℕ) → i ≤ x → x < i + n → total (λ k. cond (eqb k x) 1 0) (listFrom i n (λ k. k)) ≡ 1
 one-among i zero x h l = absurd (omega arith)
 one-among i (suc n) x h l =
-    by-cases (eqb i x) (λ e. let q = eq-of i x e in rw e (let z = none-before (suc i) n x (omega arith) in omega arith))
+    by-cases (eqb i x) (λ e. let q = eqb-true i x e in rw e (let z = none-before (suc i) n x (omega arith) in omega arith))
     (λ e. let q = eqb-false i x e in rw e (let z = one-among (suc i) n x (omega arith) (omega arith) in omega arith))
 
 -- summed over the numbers below m, of a list of such numbers, it is the length
@@ -153,8 +162,7 @@ same-times xs ys h e c =
     let a = times-below m xs (bounded m xs (omega arith)) in
     let b = times-below m ys (bounded m ys (omega arith)) in
     let l = listFrom-length 0 m (λ (k : ℕ). k) in
-    let q : getD (below m) c 0 ≡ c = listFrom-getD 0 m c (λ k. k) 0 (omega arith) ∙ (omega arith) in
-    rw q at (total-tight (λ k. times k xs) (λ k. times k ys) (below m) c 0 h (a ∙ e ∙ sym b) (omega arith))
+    rw (getD-listOf m c (λ k. k) 0 (omega arith)) at (total-tight (λ k. times k xs) (λ k. times k ys) (below m) c 0 h (a ∙ e ∙ sym b) (omega arith))
 
 -- two orders of one list pass the same tests
 pub reordered-all : (xs ys : List ℕ) → ((c : ℕ) → times c xs ≡ times c ys) → (p : ℕ → Bool) → all p xs ≡ true → all p ys ≡ true

@@ -1,13 +1,13 @@
 -- The values after turns: a term has turned exactly if it was named an odd number of times. Assumes nothing.
-use Prim.Native.Nat.{ℕ, zero, suc, _+_, _-_, _%_, _≤_, _<_}
+use Prim.Native.Nat.{ℕ, zero, suc, _+_, _-_, _%_, _<_}
 use mathlib.Core.Path.{_≡_, refl, _∙_}
 use mathlib.Core.List.{List, [], _∷_}
 use native.Mathlib.Omega.{arith}
 use lib.ListN.{length, getD, length-set}
-use lib.Seq.{getD-set-same, getD-set-other, set-out}
+use lib.Seq.{getD-set-same, getD-set-other}
 use lib.Dec.{eqb, ltb}
-use borrow.Author.Tests.{ltb-true, ltb-false, lt-ltb, eqb-true, eqb-false}
-use Rattle.written.specs.Lists.{all, those, times, steps}
+use borrow.Author.Tests.{ltb-true, lt-ltb, eqb-true, eqb-false}
+use Rattle.written.specs.Lists.{all, times, steps}
 use Rattle.written.specs.Flips.{turned}
 use Rattle.laws.specs.Valid.{Bits}
 use Rattle.laws.proofs.Basics.{by-cases, both-first, both-second, one-if, none-if}
@@ -29,7 +29,7 @@ pub turned-bits : (t : ℕ) (vs : List ℕ) → Bits vs → Bits (turned t vs)
 unfolding turned
 turned-bits t vs h = all-set (λ v. ltb v 2) vs t (1 - getD vs t 0) h (lt-ltb (1 - getD vs t 0) 2 (omega arith))
 
--- the term's value turns, every other stays, and what is no term turns none
+-- the term's value turns, every other stays
 pub turned-same : (t : ℕ) (vs : List ℕ) → t < length vs → getD (turned t vs) t 0 ≡ 1 - getD vs t 0
 unfolding turned
 turned-same t vs h = getD-set-same vs t (1 - getD vs t 0) 0 h
@@ -38,19 +38,11 @@ pub turned-other : (t k : ℕ) (vs : List ℕ) → (k ≡ t → ⊥) → getD (t
 unfolding turned
 turned-other t k vs h = getD-set-other vs t k (1 - getD vs t 0) 0 h
 
-pub turned-out : (t : ℕ) (vs : List ℕ) → length vs ≤ t → turned t vs ≡ vs
-unfolding turned
-turned-out t vs h = set-out vs t (1 - getD vs t 0) h
-
 -- ---- many turns
 
 pub turns-length : (ts vs : List ℕ) → length (steps turned ts vs) ≡ length vs
 turns-length [] vs = refl
 turns-length (t ∷ ts) vs = turns-length ts (turned t vs) ∙ turned-length t vs
-
-pub turns-bits : (ts vs : List ℕ) → Bits vs → Bits (steps turned ts vs)
-turns-bits [] vs h = h
-turns-bits (t ∷ ts) vs h = turns-bits ts (turned t vs) (turned-bits t vs h)
 
 -- a value after turns counts how often its term was named
 pub turns-count : (ts vs : List ℕ) (t : ℕ) → getD vs t 0 < 2 → t < length vs → getD (steps turned ts vs) t 0 ≡ (getD vs t 0 + times t ts) % 2
@@ -68,11 +60,3 @@ turns-count (u ∷ us) vs t b l =
     let w = turned-other u t vs (eqb-false t u e) in
     let i = turns-count us (turned u vs) t (omega arith) (rw (turned-length u vs) l) in
     omega arith)
-
--- what is no term changes nothing
-pub turns-known : (ts vs : List ℕ) → steps turned (those (λ t. ltb t (length vs)) ts) vs ≡ steps turned ts vs
-turns-known [] vs = refl
-turns-known (t ∷ ts) vs =
-    by-cases (ltb t (length vs))
-    (λ e. rw e (rw (turned-length t vs) at (turns-known ts (turned t vs))))
-    (λ e. rw (e, turned-out t vs (ltb-false t (length vs) e)) (turns-known ts vs))

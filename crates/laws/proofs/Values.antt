@@ -1,31 +1,30 @@
 -- Values as a list and as words of 32 bits: each is had back from the other. Assumes nothing.
 use Prim.Native.Nat.{ℕ, zero, suc, _+_, _-_, _*_, _/_, _%_, _^_, _≤_, _<_}
-use mathlib.Core.Path.{_≡_, refl, ap, sym, _∙_}
-use mathlib.Core.List.{List, [], _∷_, _++_}
+use mathlib.Core.Path.{_≡_, refl, ap, ap₂, sym, _∙_}
+use mathlib.Core.List.{List, [], _∷_, _++_, append-assoc}
 use native.Mathlib.Omega.{arith}
-use native.Mathlib.Decide.{decLt, ℕ-discrete}
 use native.Mathlib.Nat.{pow-suc, lt-of-lt-of-le}
-use lib.ListN.{length, getD, set, take, drop, length-take, drop-of-length-le, List·getD-eq-default, List·getD-append}
-use lib.Seq.{getD-take, getD-drop, take-suc, take-length, getD-set-same, getD-set-other, set-append-left}
+use lib.ListN.{length, getD, set, take, drop, length-append, length-take, drop-of-length-le, List·getD-eq-default, List·getD-append}
+use lib.Seq.{getD-take, getD-drop, take-length, getD-set-same, getD-set-other, set-append-left}
 use lib.Pow.{pow-mono, pow-lt}
 use lib.Dec.{ltb}
 use lib.Bits.{bitXor, xor-lt}
 use borrow.Author.Tests.{ltb-true, lt-ltb}
 use Rattle.words.specs.Words.{bitOf, bitAt, turnAt, trues, wordCount}
 use Rattle.words.proofs.Ext.{half-bit, low-bit, words-ext}
-use Rattle.words.proofs.Laws.{by-cases, bit-lt, bit-cleared, turn-length, turn-same, turn-other, trues-past}
+use Rattle.words.proofs.Laws.{bit-lt, bit-cleared, turn-length, turn-same, turn-other, trues-past}
 use Rattle.written.specs.Lists.{total, listOf, zeros, padded}
 use Rattle.written.specs.Clauses.{State}
-use Rattle.written.specs.Tables.{wordOf, wordsOf}
+use Rattle.written.specs.Tables.{wordOf, wordsOf, over}
 use Rattle.written.specs.Flips.{turned}
 use Rattle.written.specs.Printed.{chosen}
-use Rattle.laws.proofs.Basics.{both-first, both-second}
 use Rattle.laws.specs.Valid.{Bits}
+use Rattle.laws.proofs.Basics.{by-eq, by-lt, both-first, both-second}
 use Rattle.laws.proofs.Lists.{listFrom-length, listOf-is, getD-listOf}
-use Rattle.laws.proofs.Sums.{total-append}
+use Rattle.laws.proofs.Sums.{total-next}
 use Rattle.laws.proofs.All.{all-take, all-drop, all-listFrom}
 use Rattle.laws.proofs.Padding.{getD-zeros}
-use Rattle.laws.proofs.Turning.{turned-length, turned-bits}
+use Rattle.laws.proofs.Turning.{turned-length, turned-bits, turned-same, turned-other}
 
 -- ---- one word
 
@@ -57,8 +56,8 @@ words-length vs = listFrom-length 0 (wordCount (length vs)) _
 pub word-at : (vs : List ℕ) (k : ℕ) → getD (wordsOf vs) k 0 ≡ wordOf (take 32 (drop (32 * k) vs))
 unfolding wordsOf wordOf wordCount
 word-at vs k =
-    by-cases (decLt k (wordCount (length vs))) (λ h. getD-listOf (wordCount (length vs)) k _ 0 h)
-    (λ h. List·getD-eq-default (wordsOf vs) 0 {n = k} (omega (arith, words-length vs, h)) ∙ ap (λ l. wordOf (take 32 l)) (sym (drop-of-length-le vs {i = 32 * k} (omega (arith, h)))))
+    by-lt k (wordCount (length vs)) (λ h. getD-listOf (wordCount (length vs)) k _ 0 h)
+    (λ h. List·getD-eq-default (wordsOf vs) 0 {n = k} (omega (arith, words-length vs)) ∙ ap (λ l. wordOf (take 32 l)) (sym (drop-of-length-le vs {i = 32 * k} (omega arith))))
 
 pub words-lt : (vs : List ℕ) (k : ℕ) → Bits vs → getD (wordsOf vs) k 0 < 2 ^ 32
 words-lt vs k h =
@@ -99,8 +98,7 @@ words-back ws n many fits past =
     let long : length vs ≡ n = listFrom-length 0 n (bitAt ws) in
     words-ext (wordsOf vs) ws (words-length vs ∙ ap wordCount long ∙ sym many) (λ k. words-lt vs k (values-bits n ws)) fits
     (λ t. words-bit vs t (values-bits n ws)
-    ∙ by-cases (decLt t n) (λ l. getD-listOf n t (bitAt ws) 0 l)
-    (λ l. List·getD-eq-default vs 0 {n = t} (omega (arith, l)) ∙ sym (past t (omega (arith, l)))))
+    ∙ by-lt t n (λ l. getD-listOf n t (bitAt ws) 0 l) (λ l. List·getD-eq-default vs 0 {n = t} (omega arith) ∙ sym (past t l)))
 
 -- ---- a turned term
 
@@ -109,12 +107,12 @@ turn-fits : (ws : List ℕ) (t k : ℕ) → ((j : ℕ) → getD ws j 0 < 2 ^ 32)
 unfolding turnAt
 turn-fits ws t k h l =
     let w : ℕ = bitXor (getD ws (t / 32) 0) (2 ^ (t % 32)) in
-    by-cases (ℕ-discrete k (t / 32))
+    by-eq k (t / 32)
     (λ e. rw (e, getD-set-same ws (t / 32) w 0 l) (xor-lt 32 (getD ws (t / 32) 0) (2 ^ (t % 32)) (h (t / 32)) (pow-lt {j = 32} (omega arith))))
     (λ d. rw (getD-set-other ws (t / 32) k w 0 d) (h k))
 
 turn-words : (vs : List ℕ) (t : ℕ) → Bits vs → t < length vs → turnAt (wordsOf vs) t ≡ wordsOf (turned t vs)
-unfolding wordCount turned
+unfolding wordCount
 turn-words vs t h l =
     let within : t / 32 < length (wordsOf vs) = omega (arith, words-length vs) in
     let still = turned-bits t vs h in
@@ -122,9 +120,9 @@ turn-words vs t h l =
     (turn-length (wordsOf vs) t ∙ words-length vs ∙ ap wordCount (sym (turned-length t vs)) ∙ sym (words-length (turned t vs)))
     (λ k. turn-fits (wordsOf vs) t k (λ j. words-lt vs j h) within)
     (λ k. words-lt (turned t vs) k still)
-    (λ u. by-cases (ℕ-discrete u t)
-    (λ e. rw e (turn-same (wordsOf vs) t within ∙ ap (λ (v : ℕ). 1 - v) (words-bit vs t h) ∙ sym (getD-set-same vs t (1 - getD vs t 0) 0 l) ∙ sym (words-bit (turned t vs) t still)))
-    (λ d. turn-other (wordsOf vs) t u within d ∙ words-bit vs u h ∙ sym (getD-set-other vs t u (1 - getD vs t 0) 0 d) ∙ sym (words-bit (turned t vs) u still)))
+    (λ u. by-eq u t
+    (λ e. rw e (turn-same (wordsOf vs) t within ∙ ap (λ (v : ℕ). 1 - v) (words-bit vs t h) ∙ sym (turned-same t vs l) ∙ sym (words-bit (turned t vs) t still)))
+    (λ d. turn-other (wordsOf vs) t u within d ∙ words-bit vs u h ∙ sym (turned-other t u vs d) ∙ sym (words-bit (turned t vs) u still)))
 
 pub turn-value : (vs rest : List ℕ) (t : ℕ) → Bits vs → t < length vs
     → turnAt (wordsOf vs ++ rest) t ≡ wordsOf (turned t vs) ++ rest
@@ -135,6 +133,19 @@ turn-value vs rest t h l =
     ∙ set-append-left (wordsOf vs) rest (t / 32) (bitXor (getD (wordsOf vs) (t / 32) 0) (2 ^ (t % 32))) within
     ∙ ap (λ (ws : List ℕ). ws ++ rest) (turn-words vs t h l)
 
+-- so in words that are filled up and written over others
+pub turn-over : (n : ℕ) (vs old : List ℕ) (t : ℕ) → Bits vs → t < length vs
+    → turnAt (over (padded n (wordsOf vs)) old) t ≡ over (padded n (wordsOf (turned t vs))) old
+turn-over n vs old t h l =
+    let ws : List ℕ = wordsOf vs in
+    let us : List ℕ = wordsOf (turned t vs) in
+    let e : length ws ≡ length us = words-length vs ∙ ap wordCount (sym (turned-length t vs)) ∙ sym (words-length (turned t vs)) in
+    let f : length (padded n ws) ≡ length (padded n us) = length-append ws _ ∙ ap (λ (k : ℕ). k + length (zeros (n - k))) e ∙ sym (length-append us _) in
+    ap (λ (xs : List ℕ). turnAt xs t) (append-assoc ws (zeros (n - length ws)) _)
+    ∙ turn-value vs (zeros (n - length ws) ++ drop (length (padded n ws)) old) t h l
+    ∙ sym (append-assoc us (zeros (n - length ws)) _)
+    ∙ ap₂ {C = List ℕ} (λ k j. (us ++ zeros (n - k)) ++ drop j old) e f
+
 -- ---- the true terms
 
 -- the first n terms, summed
@@ -142,7 +153,7 @@ trues-of : (ws vs : List ℕ) (n : ℕ) → ((t : ℕ) → bitAt ws t ≡ getD v
 unfolding trues
 trues-of ws vs zero e h = refl
 trues-of ws vs (suc n) e h =
-    omega (arith, trues-of ws vs n e (omega arith), e n, ap (total (λ v. v)) (take-suc vs n 0 h), total-append (λ v. v) (take n vs) (getD vs n 0 ∷ []))
+    omega (arith, trues-of ws vs n e (omega arith), e n, total-next (λ v. v) vs n 0 h)
 
 -- the ones of the stored words, spare bits and all, are the true terms
 pub trues-stored : (vs : List ℕ) (k n : ℕ) → Bits vs → length vs ≤ n → trues (wordsOf vs ++ zeros k) n ≡ total (λ v. v) vs
@@ -153,11 +164,6 @@ trues-stored vs k n h l =
     let more : n ≡ length vs + (n - length vs) = omega arith in
     ap (trues ws) more ∙ trues-past ws (length vs) (n - length vs) (λ t p. at t ∙ List·getD-eq-default vs 0 {n = t} p)
     ∙ trues-of ws vs (length vs) at (omega arith) ∙ ap (total (λ v. v)) (take-length vs)
-
-pub trues-words : (vs : List ℕ) (k : ℕ) → Bits vs
-    → trues (wordsOf vs ++ zeros k) (32 * (wordCount (length vs) + k)) ≡ total (λ v. v) vs
-unfolding wordCount
-trues-words vs k h = trues-stored vs k (32 * (wordCount (length vs) + k)) h (omega arith)
 
 pub trues-padded : (full : ℕ) (vs : List ℕ) → Bits vs → wordCount (length vs) ≤ full
     → trues (padded full (wordsOf vs)) (32 * full) ≡ total (λ v. v) vs

@@ -6,10 +6,11 @@ use mathlib.Core.List.{List, [], _∷_}
 use native.Mathlib.Omega.{arith}
 use native.Mathlib.Nat.{mul-comm}
 use lib.ListN.{length}
+use borrow.Author.Tests.{eqb-true}
 use Rattle.written.specs.declared.Order.{Order}
 use Rattle.written.specs.Clauses.{File, asRead}
 use Rattle.written.specs.Walk.{Moment, Outcome, start, step, onwards, isFound, walksFrom, walkOver, foundOr, flipPicked, inClause}
-use Rattle.laws.proofs.Basics.{by-cases, eq-of}
+use Rattle.laws.proofs.Basics.{by-cases}
 
 -- where the walks of an order over a file begin
 abbrev pub begun : Order → File → Moment
@@ -46,7 +47,7 @@ none-left (u ∷ us) h = absurd (omega arith)
 
 pub found-covers : (o : Order) (f : File) → walkOver o f .found ≡ true → walkOver o f .last .state .uncovered ≡ []
 unfolding walkOver isFound
-found-covers o f h = none-left _ (eq-of _ 0 (found-is o (o .walks) 0 (begun o f) h))
+found-covers o f h = none-left _ (eqb-true _ 0 (found-is o (o .walks) 0 (begun o f) h))
 
 -- at most the walks asked for are begun
 pub walks-bound : (o : Order) (k n : ℕ) (m : Moment) → walksFrom o k n m .walks ≤ n + k

@@ -6,10 +6,10 @@ use Rattle.words.specs.Words.{turnAt}
 use Rattle.written.specs.Lists.{steps}
 use Rattle.written.specs.Agreement.{partOf}
 use Rattle.machine.specs.Tallies.{Tallies, tallies, CanSteps, CanGain, CanLose, gainOne, loseOne}
-use Rattle.machine.specs.Whole.{Text, Whole, whole, fixed, upOf, downOf, gained, lost, flipTerm, CanFlip}
+use Rattle.machine.specs.Moving.{Fixed, Moving, moving, view, upOf, downOf, gained, lost, flipTerm, CanFlip}
 use Rattle.machine.specs.Passes.{rewritten, zeroed, walkPlace, restPlace, withPlaces, opened, closed, blank, counted, recounted}
 
-module _ (top : ℕ) (x : Text) (v : ℕ) (w : Whole) where
+module _ (top : ℕ) (x : Fixed) (v : ℕ) (w : Moving) where
   pub can-gain : CanFlip top x v w → {run : List ℕ} {k : ℕ} → run ≡ partOf (x .occurrenceStarts) (x .occurrences) k → k ≡ upOf (w .words) v
       → CanSteps (CanGain top v) (gainOne v) run (w .tallies)
   can-gain h e₁ e₂ = rw (e₁, e₂) (h .gains)
@@ -26,17 +26,17 @@ module _ (top : ℕ) (x : Text) (v : ℕ) (w : Whole) where
 
   pub is-flipped : {t t′ : Tallies} {ws run : List ℕ} {k : ℕ} → t ≡ gained x v (w .words) (w .tallies) → ws ≡ turnAt (w .words) v
       → run ≡ partOf (x .occurrenceStarts) (x .occurrences) k → k ≡ downOf (w .words) v
-      → t′ ≡ steps (loseOne v) run t → _≡_ {A = Whole} (record { words = ws; tallies = t′ }) (flipTerm x v w)
+      → t′ ≡ steps (loseOne v) run t → _≡_ {A = Moving} (record { words = ws; tallies = t′ }) (flipTerm x v w)
   unfolding flipTerm lost
   is-flipped e₀ e e₁ e₂ e₃ = rw (e₃, e₀, e, e₁, e₂)
 
-pub is-opened : (n : ℕ) (x : Text) (w : Whole) {ps : List ℕ}
-    → ps ≡ rewritten (walkPlace (fixed (w .words) (x .starts) (x .literals)) (w .tallies .trues)) n (w .tallies .uncovered .places)
+pub is-opened : (n : ℕ) (x : Fixed) (w : Moving) {ps : List ℕ}
+    → ps ≡ rewritten (walkPlace (view (w .words) (x .starts) (x .literals)) (w .tallies .trues)) n (w .tallies .uncovered .places)
     → withPlaces ps w ≡ opened n x w
 unfolding opened
 is-opened n x w e = ap (λ (ps : List ℕ). withPlaces ps w) e
 
-pub is-closed : (n : ℕ) (w : Whole) {ps : List ℕ} → ps ≡ rewritten (restPlace (w .tallies .trues)) n (w .tallies .uncovered .places) → withPlaces ps w ≡ closed n w
+pub is-closed : (n : ℕ) (w : Moving) {ps : List ℕ} → ps ≡ rewritten (restPlace (w .tallies .trues)) n (w .tallies .uncovered .places) → withPlaces ps w ≡ closed n w
 unfolding closed
 is-closed n w e = ap (λ (ps : List ℕ). withPlaces ps w) e
 
@@ -45,7 +45,7 @@ pub is-blank : (C T : ℕ) (t : Tallies) {bs us : List ℕ} → bs ≡ zeroed T 
 unfolding blank
 is-blank C T t eb eu = rw (eb, eu)
 
-pub is-recounted : (C T : ℕ) (x : Text) (w : Whole) {b t : Tallies} → b ≡ blank C T (w .tallies) → t ≡ counted C (fixed (w .words) (x .starts) (x .literals)) b
-    → whole (w .words) t ≡ recounted C T x w
+pub is-recounted : (C T : ℕ) (x : Fixed) (w : Moving) {b t : Tallies} → b ≡ blank C T (w .tallies) → t ≡ counted C (view (w .words) (x .starts) (x .literals)) b
+    → moving (w .words) t ≡ recounted C T x w
 unfolding recounted
 is-recounted C T x w eb et = rw (et, eb)

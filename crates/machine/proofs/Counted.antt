@@ -13,11 +13,13 @@ use Rattle.written.specs.Flips.{enter}
 use Rattle.written.specs.Agreement.{partOf}
 use Rattle.machine.specs.Literals.{xorTrue}
 use Rattle.machine.specs.Tallies.{Tallies, raised}
-use Rattle.machine.specs.Whole.{Fixed, CanRead, countAt, xorAt}
+use Rattle.machine.specs.Moving.{View, CanRead, countAt, xorAt}
 use Rattle.machine.specs.Passes.{countOne, CanCount}
-use Rattle.machine.proofs.Basics.{by-eq, kept-set, total-snoc}
 use Rattle.machine.proofs.Status.{Standing, fresh, status, critical, bare, critical-off, bare-off, breaks-keep, breaks-raise}
 use Rattle.machine.proofs.Mid.{Mid, countIn, mid-keep, mid-enter, can-enter, can-raise}
+use Rattle.laws.proofs.Basics.{by-eq}
+use Rattle.laws.proofs.Lists.{kept-set}
+use Rattle.laws.proofs.Sums.{total-append}
 
 -- one clause more, as if it had two true literals
 module _ (o : Tallies) (T : ℕ) (pre : List Standing) (us : List ℕ) (t : Tallies) (h : Mid o T pre us t) (c : ℕ) (lp : length pre ≡ c)
@@ -64,9 +66,9 @@ module _ (o : Tallies) (T : ℕ) (pre : List Standing) (us : List ℕ) (t : Tall
         breaks =
             record {
               room = h .breaks .room;
-              all = λ w l. let e₁ = h .breaks .all w l in let e₂ = total-snoc (critical w) pre s₀ in let e₃ = critical-off w s₀ (λ q. omega arith) in omega arith;
+              all = λ w l. let e₁ = h .breaks .all w l in let e₂ = total-append (critical w) pre (s₀ ∷ []) in let e₃ = critical-off w s₀ (λ q. omega arith) in omega arith;
             };
-        number = let e₁ = h .number in let e₂ = total-snoc bare pre s₀ in let e₃ = bare-off s₀ (λ q. omega arith) in omega arith;
+        number = let e₁ = h .number in let e₂ = total-append bare pre (s₀ ∷ []) in let e₃ = bare-off s₀ (λ q. omega arith) in omega arith;
         list =
             record {
               fits = let f = h .list .fits in omega arith;
@@ -102,7 +104,7 @@ module _ (o : Tallies) (T : ℕ) (pre : List Standing) (us : List ℕ) (t : Tall
   old-count = count-new
 
   -- then counted
-  module _ (f : Fixed) (a : ℕ → ℕ) (ls : List ℕ) (low : total a ls ≡ 1 → xorTrue a ls < T) (ek : countAt f c ≡ total a ls) (ew : xorAt f c ≡ xorTrue a ls) where
+  module _ (f : View) (a : ℕ → ℕ) (ls : List ℕ) (low : total a ls ≡ 1 → xorTrue a ls < T) (ek : countAt f c ≡ total a ls) (ew : xorAt f c ≡ xorTrue a ls) where
     pub counted-one : Mid o T (pre ++ status a ls ∷ []) (cond (eqb (total a ls) 0) (enter c us) us) (countOne f c t)
     unfolding countOne status raised
     counted-one =

@@ -6,33 +6,38 @@ use Prim.Native.Nat.{ℕ, _*_, _<_, _≤_}
 use native.Mathlib.Nat.{zero-add}
 use native.Mathlib.Omega.{arith}
 use lib.ListN.{length, getD, set, length-map}
-use Rattle.written.specs.Lists.{has, steps}
+use lib.Dec.{ltb}
+use Rattle.written.specs.Lists.{all, has, differ, steps}
 use Rattle.written.specs.Clauses.{termOf, valueOf, trueCount, isUncovered, occurrencesOf}
 use Rattle.written.specs.Flips.{turned, falseLiteral, trueLiteral, leave, enter, movedIf, afterLeaving, afterEntering}
 use Rattle.laws.specs.Valid.{isClause}
 use Rattle.laws.proofs.Basics.{by-cases}
+use Rattle.laws.proofs.Lists.{map-by}
+use Rattle.laws.proofs.Sums.{total-most}
+use Rattle.laws.proofs.All.{all-getD}
+use Rattle.laws.proofs.Membership.{differ-one}
+use Rattle.laws.proofs.Literals.{value-le, without, total-kept}
+use Rattle.laws.proofs.Sizes.{clause-below, clause-differs}
 use Rattle.machine.specs.Tallies.{Tallies, CanSteps, CanGain, CanLose, gainOne, loseOne}
-use Rattle.machine.specs.Whole.{Text}
-use Rattle.machine.specs.Agree.{Holds}
-use Rattle.machine.proofs.Basics.{all-at, map-same, total-le}
-use Rattle.machine.proofs.Clause.{All, Once, clause-low, clause-once, more, same-count, same-xor, one-low, not-both, neither}
+use Rattle.machine.specs.Moving.{Fixed}
+use Rattle.machine.specs.Holds.{HoldsClauses}
+use Rattle.machine.proofs.Clause.{Turn, more, same-xor, one-low}
 use Rattle.machine.proofs.Status.{Standing, fresh, status}
 use Rattle.machine.proofs.Mid.{Mid}
-use Rattle.machine.proofs.Touch.{Turn, Touched, gain-can, gain-mid, lose-can, lose-mid}
+use Rattle.machine.proofs.Touch.{Touched, gain-can, gain-mid, lose-can, lose-mid}
 use Rattle.machine.proofs.Pass.{AllFrom, all-from, passed, pass}
-use Rattle.machine.proofs.Turned.{apart, either, turn-up, turn-down}
-
-pub value-le : (vs : List ℕ) (l : ℕ) → valueOf vs l ≤ 1
-unfolding valueOf
-value-le vs l = omega arith
+use Rattle.machine.proofs.Turned.{turn-up, turn-down}
 
 -- the clauses of the tables
-module _ (top T : ℕ) (cs : List (List ℕ)) (x : Text) (hd : Holds top T cs x) (c : ℕ) (lc : c < length cs) where
-  pub lits : All (λ l. l < 2 * T) (getD cs c [])
-  lits = clause-low T (getD cs c []) (all-at (isClause T) cs [] (hd .valid) c lc)
+module _ (top T : ℕ) (cs : List (List ℕ)) (x : Fixed) (hd : HoldsClauses top T cs x) (c : ℕ) (lc : c < length cs) where
+  valid : isClause T (getD cs c []) ≡ true
+  valid = all-getD (isClause T) cs c [] lc (hd .valid)
 
-  pub once : Once (getD cs c [])
-  once = clause-once T (getD cs c []) (all-at (isClause T) cs [] (hd .valid) c lc)
+  pub lits : all (λ l. ltb l (2 * T)) (getD cs c []) ≡ true
+  lits = clause-below T (getD cs c []) valid
+
+  once : differ (map termOf (getD cs c [])) ≡ true
+  once = clause-differs T (getD cs c []) valid
 
   -- the clause can be touched where one of its literals turns
   touched : {a b : ℕ → ℕ} {y v : ℕ} → ((l : ℕ) → a l ≤ 1) → ((l : ℕ) → b l ≤ 1) → Turn a b y v → has y (getD cs c []) ≡ true → Touched top a y T (getD cs c [])
@@ -42,13 +47,13 @@ module _ (top T : ℕ) (cs : List (List ℕ)) (x : Text) (hd : Holds top T cs x)
         stands = hy;
         low = one-low a la T (getD cs c []) lits;
         short =
-            let e = more a b y (tn .off) (tn .before) (tn .after) (getD cs c []) once hy in
-            let f = total-le b lb (getD cs c []) in
+            let e = more tn (getD cs c []) once hy in
+            let f = total-most b lb (getD cs c []) in
             let s = hd .short c lc in
             omega arith;
       }
 
-module _ (o : Tallies) (top : ℕ) (cs : List (List ℕ)) (vs : List ℕ) (x : Text) (hd : Holds top (length vs) cs x) (v : ℕ) (lv : v < length vs)
+module _ (o : Tallies) (top : ℕ) (cs : List (List ℕ)) (vs : List ℕ) (x : Fixed) (hd : HoldsClauses top (length vs) cs x) (v : ℕ) (lv : v < length vs)
     (small : getD vs v 0 < 2) where
   abbrev T : ℕ
   T = length vs
@@ -99,7 +104,7 @@ module _ (o : Tallies) (top : ℕ) (cs : List (List ℕ)) (vs : List ℕ) (x : T
       let to : Touched top (valueOf vs′) down T ls =
       subst (λ (k : List ℕ). Touched top (valueOf vs′) down T k) (p .1) (touched top T cs x hd i (p .0) (value-le vs′) (value-le vs) td (rw (p .1) hu)) in
       let q : termOf up ≡ termOf down = tu .term ∙ sym (td .term) in
-      let now′ : getD sts i fresh ≡ A ls = by-cases (has up ls) (λ e. absurd (not-both up down q (apart vs v small) ls (to .once) e hu)) (λ e. rw e at now) in
+      let now′ : getD sts i fresh ≡ A ls = by-cases (has up ls) (λ e. absurd (omega (arith, ap (valueOf vs) (differ-one termOf ls up down (to .once) e hu q), tu .before, td .after))) (λ e. rw e at now) in
       (lose-can td lv to sts us t m (omega arith) li now′, rw (p .1) (lose-mid td lv to sts us t m (omega arith) li now′))
 
   -- what stands after both runs is the standing at the turned values
@@ -113,13 +118,8 @@ module _ (o : Tallies) (top : ℕ) (cs : List (List ℕ)) (vs : List ℕ) (x : T
       by-cases (has up ls)
       (λ e′. rw (e, e′))
       (λ e′.
-      let none = neither up down (termOf up) (λ m q. either vs v small m (q ∙ tu .term)) ls e′ e in
-      rw (
-        e,
-        e′,
-        ← same-count (valueOf vs) (valueOf vs′) up (tu .off) (tu .before) (tu .after) ls none,
-        ← same-xor (valueOf vs) (valueOf vs′) up (tu .off) (tu .before) (tu .after) ls none,
-      )))
+      let none = without vs v ls small e′ e in
+      rw (e, e′, ← total-kept (valueOf vs) (valueOf vs′) v (tu .off) ls none, ← same-xor tu ls none)))
 
   module _ (us : List ℕ) (t : Tallies) (m : Mid o T (map A cs) us t) where
     abbrev gone : Tallies
@@ -143,4 +143,4 @@ module _ (o : Tallies) (top : ℕ) (cs : List (List ℕ)) (vs : List ℕ) (x : T
     can-lose = loses .0
 
     pub mid-flip : Mid o T (map B cs) (afterEntering cs vs v (afterLeaving cs vs v us)) (steps (loseOne v) (occurrencesOf cs down) gone)
-    mid-flip = rw (← map-same (passed down (passed up A B) B) B cs [] settled) (loses .1)
+    mid-flip = rw (← map-by (passed down (passed up A B) B) B cs [] settled) (loses .1)

@@ -1,54 +1,65 @@
--- The uncovered list as a clause leaves or enters is the list as it is written, and what stands past the clauses is kept. Assumes nothing.
+-- The uncovered list as it is written: where its clauses stand, and that it is so again as one leaves or enters; what stands past the clauses is kept.
+-- Assumes nothing.
 use mathlib.Core.Path.{_≡_, ap, _∙_, sym}
-use mathlib.Core.List.{List, [], _∷_}
-use Prim.Native.Nat.{ℕ, zero, suc, _-_, _≤_, _<_}
+use mathlib.Core.List.{List}
+use Prim.Native.Nat.{ℕ, _-_, _≤_, _<_}
 use native.Mathlib.Omega.{arith}
 use native.Mathlib.Numerals.{add-one}
 use lib.ListN.{length, getD, set, take}
 use lib.Seq.{length-take-le, getD-take, take-set-le, take-set-lt, take-take, take-suc-set}
-use borrow.Author.Tests.{eq-eqb, ne-eqb}
-use Rattle.written.specs.Lists.{placeOf}
+use Rattle.written.specs.Lists.{placeOf, times}
 use Rattle.written.specs.Flips.{leave, enter}
 use Rattle.machine.specs.Uncovered.{Uncovered, leaves, enters}
-use Rattle.machine.specs.Agree.{Placed}
-use Rattle.machine.proofs.Basics.{kept-set}
+use Rattle.machine.specs.Holds.{Placed}
+use Rattle.laws.proofs.Lists.{kept-set}
+use Rattle.laws.proofs.Times.{times-once, placeOf-once}
 
--- the place of an entry that stands nowhere before
-place-is : (c : ℕ) (us : List ℕ) (p : ℕ) → p < length us → getD us p 0 ≡ c → ((j : ℕ) → j < p → getD us j 0 ≡ c → ⊥) → placeOf c us ≡ p
-place-is c [] p l e n = absurd (omega arith)
-place-is c (x ∷ xs) zero l e n = rw (eq-eqb c x (sym e))
-place-is c (x ∷ xs) (suc p) l e n = rw (ne-eqb c x (λ q. n 0 (omega arith) (sym q))) (ap suc (place-is c xs p (omega arith) e (λ j lj. n (suc j) (omega arith))))
+-- us is the uncovered list as it is written
+module _ (C : ℕ) (κ ρ : ℕ → ℕ) (u : Uncovered) (h : Placed C κ ρ u) (us : List ℕ) (f : take (u .number) (u .list) ≡ us) where
+  pub front-size : length us ≡ u .number
+  front-size = ap length (sym f) ∙ length-take-le (u .number) (u .list) (omega (arith, h .fits, h .list-room))
 
--- the list as it is written, as a clause leaves or enters
-module _ (C : ℕ) (κ ρ : ℕ → ℕ) (u : Uncovered) (h : Placed C κ ρ u) (us : List ℕ) (f : take (u .number) (u .list) ≡ us) (c y : ℕ) where
-  size : length us ≡ u .number
-  size = ap length (sym f) ∙ length-take-le (u .number) (u .list) (let a = h .fits in let b = h .list-room in omega arith)
+  pub front-at : (j : ℕ) → j < u .number → getD us j 0 ≡ getD (u .list) j 0
+  front-at j l = ap (λ (x : List ℕ). getD x j 0) (sym f) ∙ getD-take (u .number) (u .list) j 0 l
 
-  entry : (j : ℕ) → j < u .number → getD us j 0 ≡ getD (u .list) j 0
-  entry j l = ap (λ (x : List ℕ). getD x j 0) (sym f) ∙ getD-take (u .number) (u .list) j 0 l
+  -- an uncovered clause stands there once, at its place
+  module _ (c : ℕ) (lc : c < C) (z : κ c ≡ 0) where
+    abbrev p : ℕ
+    p = getD (u .places) c 0
 
-  pub front-leave : c < C → κ c ≡ 0 → take (leaves c y u .number) (leaves c y u .list) ≡ leave c us
+    within : p < length us
+    within = rw front-size (h .low c lc z)
+
+    at-place : getD us p 0 ≡ c
+    at-place = front-at p (h .low c lc z) ∙ h .found c lc z
+
+    pub front-once : times c us ≡ 1
+    front-once =
+        times-once c us p within at-place
+        (λ j l e.
+        let l′ : j < u .number = rw front-size at l in
+        sym (h .placed j l′) ∙ ap (λ (d : ℕ). getD (u .places) d 0) (sym (front-at j l′) ∙ e))
+
+    front-place : placeOf c us ≡ p
+    front-place = ap (λ (d : ℕ). placeOf d us) (sym at-place) ∙ placeOf-once us p within (ap (λ (d : ℕ). times d us) at-place ∙ front-once)
+
+  -- as a clause leaves or enters
+  pub front-leave : (c y : ℕ) → c < C → κ c ≡ 0 → take (leaves c y u .number) (leaves c y u .list) ≡ leave c us
   unfolding leaves leave
-  front-leave lc z =
+  front-leave c y lc z =
       let p = getD (u .places) c 0 in
       let e = getD (u .list) (u .number - 1) 0 in
       let lp = h .low c lc z in
-      let q : placeOf c us ≡ p =
-      place-is c us p (rw size lp) (entry p lp ∙ h .found c lc z)
-      (λ j lj ej.
-      let lj′ : j < u .number = omega arith in
-      let w = sym (h .placed j lj′) ∙ ap (λ (i : ℕ). getD (u .places) i 0) (sym (entry j lj′) ∙ ej) in
-      omega arith) in
       let le : u .number - 1 < u .number = omega arith in
       let m : u .number - 1 ≤ u .number = omega arith in
       take-set-le (u .number - 1) (set (u .list) p e) (u .number - 1) 0 (omega arith)
       ∙ sym (take-take (u .number - 1) (u .number) (set (u .list) p e) m)
       ∙ ap (take (u .number - 1)) (take-set-lt (u .number) (u .list) p e lp ∙ ap (λ (l : List ℕ). set l p e) f)
-      ∙ rw (size, q, entry (u .number - 1) le)
+      ∙ rw (front-size, front-place c lc z, front-at (u .number - 1) le)
 
-  pub front-enter : u .number < C → take (enters c u .number) (enters c u .list) ≡ enter c us
+  pub front-enter : (c : ℕ) → u .number < C → take (enters c u .number) (enters c u .list) ≡ enter c us
   unfolding enters enter
-  front-enter l = let r = h .list-room in rw (add-one, take-suc-set (u .list) (u .number) c (omega arith), f)
+  front-enter c l = let r = h .list-room in rw (add-one, take-suc-set (u .list) (u .number) c (omega arith), f)
 
 -- entries past the clauses stay
 module _ (C : ℕ) (κ ρ : ℕ → ℕ) (u : Uncovered) (h : Placed C κ ρ u) (c y : ℕ) (lc : c < C) (os : List ℕ) where

@@ -1,25 +1,28 @@
 -- Lent tables in which a valid state is laid down are written tables that hold it. Assumes nothing.
-use mathlib.Core.Path.{_≡_, ap, _∙_}
+use mathlib.Core.Path.{_≡_, sym, _∙_}
+use mathlib.Core.Bool.{true, false, _&&_}
 use mathlib.Core.List.{List, []}
 use Prim.Native.Nat.{ℕ, _+_, _*_, _≤_, _<_}
 use native.Mathlib.Omega.{arith}
-use native.Mathlib.Nat.{zero-add}
 use lib.ListN.{length, getD, length-map, List·getD-map}
 use lib.Seq.{take-append-seam}
-use Rattle.written.specs.Lists.{placeOf, times}
+use lib.Dec.{ltb}
+use borrow.Author.Tests.{ltb-true, lt-ltb, eqb-true, eq-eqb, ne-eqb}
+use Rattle.written.specs.Lists.{has, placeOf}
 use Rattle.written.specs.Limits.{Limits}
-use Rattle.written.specs.Clauses.{State, trueCount, breakCount, occurrencesOf}
+use Rattle.written.specs.Clauses.{State, trueCount, isUncovered, breakCount, occurrencesOf}
 use Rattle.written.specs.Tables.{Tables, each, sizes, fullSizes, turnedRound, placeIn, inUse, tablesOf, holding}
 use Rattle.laws.specs.Valid.{Valid}
-use Rattle.laws.proofs.Lists.{listFrom-length, listFrom-getD}
-use Rattle.machine.specs.Agree.{Holds, Placed, Resting}
-use Rattle.machine.specs.Lent.{textIn, wholeIn, Laid}
-use Rattle.machine.proofs.Basics.{total-has}
-use Rattle.machine.proofs.Parts.{begins-length, begins-at, part-can, part-is}
-use Rattle.machine.proofs.Padding.{padded-begins, padded-room, padded-zero, over-begins, over-room, over-zero}
-use Rattle.machine.proofs.Multiset.{has-some, has-none, place-low, place-found, entry-place}
-use Rattle.machine.proofs.ValueWords.{value-small, words-hold}
-use Rattle.machine.proofs.Listing.{bare-once, covered-not, entry-low, entry-bare, entry-once, list-length, list-le}
+use Rattle.laws.proofs.Basics.{both-first, both-second}
+use Rattle.laws.proofs.Lists.{listFrom-length, getD-listOf}
+use Rattle.laws.proofs.Sums.{total-has}
+use Rattle.laws.proofs.Membership.{placeOf-lt, placeOf-getD, has-getD}
+use Rattle.laws.proofs.Times.{placeOf-once}
+use Rattle.laws.proofs.Padding.{padded-room, padded-zero, over-room, over-zero}
+use Rattle.laws.proofs.Counted.{listed-length, listed-few, listed-has, listed-at, listed-once}
+use Rattle.machine.specs.Holds.{HoldsClauses, Placed, Resting}
+use Rattle.machine.specs.Lent.{fixedIn, movingIn, Laid}
+use Rattle.machine.proofs.Begins.{begins-length, begins-at, padded-begins, over-begins, part-can, part-is, words-hold}
 
 module _ (lim : Limits) (top : ℕ) (few-clauses : lim .clauses + 1 < top) (few-terms : 2 * lim .terms < top) (few-literals : lim .literals < top)
     (s : State) (t : Tables) (v : Valid lim s) (b : Laid s t) where
@@ -35,7 +38,7 @@ module _ (lim : Limits) (top : ℕ) (few-clauses : lim .clauses + 1 < top) (few-
   abbrev T : ℕ
   T = length (s .file .names)
 
-  holds : Holds top T cs (textIn t)
+  holds : HoldsClauses top T cs (fixedIn t)
   unfolding inUse
   holds =
       let p = v .proper in
@@ -53,57 +56,73 @@ module _ (lim : Limits) (top : ℕ) (few-clauses : lim .clauses + 1 < top) (few-
         occurs-part = λ l h. part-can rounds (b .occurrenceStarts) (b .occurrences) l (omega arith);
         occurs = λ l h.
             part-is rounds (b .occurrenceStarts) (b .occurrences) l (omega arith)
-            ∙ (unfold turnedRound in listFrom-getD 0 (2 * T) l (occurrencesOf cs) [] h ∙ ap (occurrencesOf cs) (zero-add l));
+            ∙ (unfold turnedRound in getD-listOf (2 * T) l (occurrencesOf cs) [] h);
       }
+
+  -- a clause is listed where it is uncovered
+  in-list : (c : ℕ) → c < length cs → trueCount vs (getD cs c []) ≡ 0 → has c us ≡ true
+  unfolding isUncovered
+  in-list c l z = listed-at s (v .listed) c ∙ rw (lt-ltb c (length cs) l, eq-eqb _ 0 z)
+
+  not-in-list : (c : ℕ) → c < length cs → (trueCount vs (getD cs c []) ≡ 0 → ⊥) → has c us ≡ false
+  unfolding isUncovered
+  not-in-list c l n = listed-at s (v .listed) c ∙ rw (lt-ltb c (length cs) l, ne-eqb _ 0 n)
+
+  module _ (j : ℕ) (l : j < length us) where
+    entry : (ltb (getD us j 0) (length cs) && isUncovered vs (getD cs (getD us j 0) [])) ≡ true
+    entry = sym (listed-at s (v .listed) (getD us j 0)) ∙ has-getD us j 0 l
+
+    entry-low : getD us j 0 < length cs
+    entry-low = ltb-true _ _ (both-first _ _ entry)
+
+    entry-bare : trueCount vs (getD cs (getD us j 0) []) ≡ 0
+    unfolding isUncovered
+    entry-bare = eqb-true _ 0 (both-second (ltb (getD us j 0) (length cs)) _ entry)
+
+    entry-place : placeOf (getD us j 0) us ≡ j
+    entry-place = placeOf-once us j l (listed-once s (v .listed) (getD us j 0) (sym (listed-has s (v .listed) (getD us j 0)) ∙ has-getD us j 0 l))
 
   -- the place that is written for a clause
   place-at : (c : ℕ) → c < length cs → getD (t .places) c 0 ≡ placeIn us c
   unfolding inUse
-  place-at c l =
-      let e = listFrom-length 0 (length cs) (placeIn us) in
-      begins-at (b .places) c (omega arith) ∙ listFrom-getD 0 (length cs) c (placeIn us) 0 l ∙ ap (placeIn us) (zero-add c)
+  place-at c l = begins-at (b .places) c (omega (arith, listFrom-length 0 (length cs) (placeIn us))) ∙ getD-listOf (length cs) c (placeIn us) 0 l
 
   place-bare : (c : ℕ) → c < length cs → trueCount vs (getD cs c []) ≡ 0 → getD (t .places) c 0 ≡ placeOf c us
   unfolding placeIn
-  place-bare c l z = place-at c l ∙ rw (has-some c us (let e = bare-once s (v .listed) c l z in omega arith))
+  place-bare c l z = place-at c l ∙ rw (in-list c l z)
 
   list-at : (j : ℕ) → j < length us → getD (t .uncovered) j 0 ≡ getD us j 0
   unfolding inUse
   list-at j l = begins-at (b .uncovered) j l
 
-  placed : Placed (length cs) (λ c. trueCount vs (getD cs c [])) (λ c. 0) (wholeIn (length us) t .tallies .uncovered)
+  placed : Placed (length cs) (λ c. trueCount vs (getD cs c [])) (λ c. 0) (movingIn (length us) t .tallies .uncovered)
   placed =
       record {
-        fits = list-le s (v .listed);
+        fits = listed-few s (v .listed);
         list-room = b .room;
-        places-room = unfold inUse in (let e = listFrom-length 0 (length cs) (placeIn us) in let f = begins-length (b .places) in omega arith);
-        within = λ j l. rw (list-at j l) (entry-low s (v .listed) j l);
-        placed = λ j l.
-            rw (list-at j l)
-            (place-bare (getD us j 0) (entry-low s (v .listed) j l) (entry-bare s (v .listed) j l) ∙ entry-place us j l (entry-once s (v .listed) j l));
-        bare = λ j l. rw (list-at j l) (entry-bare s (v .listed) j l);
-        low = λ c l z. rw (place-bare c l z) (place-low c us (let e = bare-once s (v .listed) c l z in omega arith));
-        found = λ c l z.
-            let n : 0 < times c us = let e = bare-once s (v .listed) c l z in omega arith in
-            rw (place-bare c l z) (list-at (placeOf c us) (place-low c us n) ∙ place-found c us n);
-        covered = λ c l n. place-at c l ∙ (unfold placeIn in rw (has-none c us (covered-not s (v .listed) c l n)));
+        places-room = unfold inUse in omega (arith, listFrom-length 0 (length cs) (placeIn us), begins-length (b .places));
+        within = λ j l. rw (list-at j l) (entry-low j l);
+        placed = λ j l. rw (list-at j l) (place-bare (getD us j 0) (entry-low j l) (entry-bare j l) ∙ entry-place j l);
+        bare = λ j l. rw (list-at j l) (entry-bare j l);
+        low = λ c l z. rw (place-bare c l z) (placeOf-lt c us (in-list c l z));
+        found = λ c l z. rw (place-bare c l z) (list-at (placeOf c us) (placeOf-lt c us (in-list c l z)) ∙ placeOf-getD c us 0 (in-list c l z));
+        covered = λ c l n. place-at c l ∙ (unfold placeIn in rw (not-in-list c l n));
         rest = b .zero;
       }
 
-  pub laid-resting : Resting top s (textIn t) (wholeIn (length us) t)
+  pub laid-resting : Resting top s (fixedIn t) (movingIn (length us) t)
   unfolding inUse
   laid-resting =
       let n = v .one-each in
       record {
         holds = rw n holds;
-        words = words-hold vs (value-small vs (v .bits)) (b .values);
+        words = words-hold vs (v .bits) (b .values);
         trues-room = let e = length-map cs (trueCount vs) in let f = begins-length (b .trues) in omega arith;
         trues = λ c l. begins-at (b .trues) c (let e = length-map cs (trueCount vs) in omega arith) ∙ (unfold trueCount in List·getD-map (trueCount vs) cs c []);
         breaks-room = let e = listFrom-length 0 T (breakCount vs cs) in let f = begins-length (b .breaks) in omega arith;
         breaks = λ k l.
-            begins-at (b .breaks) k (let e = listFrom-length 0 T (breakCount vs cs) in omega arith) ∙ listFrom-getD 0 T k (breakCount vs cs) 0 (omega arith)
-            ∙ ap (breakCount vs cs) (zero-add k);
-        number = list-length s (v .listed);
+            begins-at (b .breaks) k (let e = listFrom-length 0 T (breakCount vs cs) in omega arith) ∙ getD-listOf T k (breakCount vs cs) 0 (omega arith);
+        number = listed-length s (v .listed);
         places = placed;
         list = rw (b .uncovered .is) (take-append-seam us (b .uncovered .rest));
       }
@@ -125,7 +144,7 @@ module _ (lim : Limits) (s : State) (few : length (s .file .clauses) ≤ lim .cl
         uncovered = padded-begins _ _;
         places = padded-begins _ _;
         room = unfold inUse in (let r = padded-room (lim .clauses) (s .uncovered) in omega arith);
-        zero = unfold inUse in (λ j l h. padded-zero (lim .clauses) (s .uncovered) j l (omega arith));
+        zero = unfold inUse in (λ j l h. padded-zero (lim .clauses) (s .uncovered) j l);
       }
 
   pub holding-laid : (t : Tables) → Laid s (holding lim s t)

@@ -3,19 +3,21 @@ use mathlib.Core.Path.{_≡_}
 use mathlib.Core.List.{List, map}
 use Prim.Native.Nat.{ℕ, _-_, _<_}
 use native.Mathlib.Omega.{arith}
-use lib.ListN.{length, getD, length-set, length-map}
+use lib.ListN.{length, getD, length-map}
 use Rattle.written.specs.Clauses.{State, valueOf, occurrencesOf}
 use Rattle.written.specs.Flips.{turned, falseLiteral, trueLiteral, flip}
 use Rattle.written.specs.Agreement.{partOf}
-use Rattle.machine.specs.Whole.{Text, Whole, upOf, downOf, gained, lost, flipTerm, CanFlip}
-use Rattle.machine.specs.Agree.{Walking, Kept}
+use Rattle.machine.specs.Moving.{Fixed, Moving, upOf, downOf, gained, lost, flipTerm, CanFlip}
+use Rattle.machine.specs.Holds.{Walking, Kept}
 use Rattle.machine.proofs.Status.{status}
 use Rattle.machine.proofs.Mid.{Mid}
-use Rattle.machine.proofs.Turned.{bit-small, in-words, up-is, down-is, false-low, true-low, turned-values}
+use Rattle.machine.proofs.Turned.{bit-small, in-words, up-is, down-is, turned-values}
 use Rattle.machine.proofs.Flipped.{can-gain, can-lose, mid-flip}
 use Rattle.machine.proofs.Standings.{to-mid, from-mid}
+use Rattle.laws.proofs.Turning.{turned-length}
+use Rattle.laws.proofs.Literals.{false-below, true-below}
 
-module _ (top : ℕ) (s : State) (x : Text) (w : Whole) (g : Walking top s x w) (v : ℕ) (lv : v < length (s .values)) where
+module _ (top : ℕ) (s : State) (x : Fixed) (w : Moving) (g : Walking top s x w) (v : ℕ) (lv : v < length (s .values)) where
   abbrev cs : List (List ℕ)
   cs = s .file .clauses
 
@@ -32,10 +34,10 @@ module _ (top : ℕ) (s : State) (x : Text) (w : Whole) (g : Walking top s x w) 
   down = down-is vs (w .words) (g .words) v lv
 
   run-up : partOf (x .occurrenceStarts) (x .occurrences) (upOf (w .words) v) ≡ occurrencesOf cs (falseLiteral vs v)
-  run-up = rw up (g .holds .occurs (falseLiteral vs v) (false-low vs v small (length vs) lv))
+  run-up = rw up (g .holds .occurs (falseLiteral vs v) (false-below vs v (length vs) lv))
 
   run-down : partOf (x .occurrenceStarts) (x .occurrences) (downOf (w .words) v) ≡ occurrencesOf cs (trueLiteral vs v)
-  run-down = rw down (g .holds .occurs (trueLiteral vs v) (true-low vs v small (length vs) lv))
+  run-down = rw down (g .holds .occurs (trueLiteral vs v) (true-below vs v (length vs) lv))
 
   -- the flip can be made
   pub flip-can : CanFlip top x v w
@@ -44,15 +46,14 @@ module _ (top : ℕ) (s : State) (x : Text) (w : Whole) (g : Walking top s x w) 
       record {
         word = in-words vs (w .words) (g .words) v lv;
         small = let f = g .holds .few-terms in omega arith;
-        up = rw up (g .holds .occurs-part (falseLiteral vs v) (false-low vs v small (length vs) lv));
-        down = rw down (g .holds .occurs-part (trueLiteral vs v) (true-low vs v small (length vs) lv));
+        up = rw up (g .holds .occurs-part (falseLiteral vs v) (false-below vs v (length vs) lv));
+        down = rw down (g .holds .occurs-part (trueLiteral vs v) (true-below vs v (length vs) lv));
         gains = rw run-up (can-gain (w .tallies) top cs vs x (g .holds) v lv small (s .uncovered) (w .tallies) (to-mid top s x w g));
         loses = rw (run-down, run-up) (can-lose (w .tallies) top cs vs x (g .holds) v lv small (s .uncovered) (w .tallies) (to-mid top s x w g));
       }
 
   size : length (turned v vs) ≡ length vs
-  unfolding turned
-  size = length-set vs v (1 - getD vs v 0)
+  size = turned-length v vs
 
   mid : Mid (w .tallies) (length (turned v vs)) (map (status (valueOf (turned v vs))) cs) (flip v s .uncovered) (flipTerm x v w .tallies)
   unfolding flip flipTerm gained lost

@@ -1,5 +1,5 @@
 -- That what the code does to the tables is what is written, bottom up.
-pub mod Basics
+pub mod Xor
 pub mod Clause
 -- one clause: its standing, its place, and a step on it
 pub mod Status
@@ -27,15 +27,9 @@ pub mod Opened
 pub mod Counted
 pub mod Recounted
 -- the tables that are written for a state
-pub mod Parts
-pub mod Padding
-pub mod Multiset
-pub mod ValueWords
-pub mod TurnedWords
-pub mod Listing
+pub mod Begins
 pub mod Laid
 pub mod Held
-pub mod Validity
 pub mod Settled
 pub mod Tallied
 pub mod Outcome

@@ -8,11 +8,12 @@ use lib.ListN.{length, getD, set, take, length-set}
 use lib.Seq.{getD-set-same, getD-set-other}
 use Rattle.written.specs.Lists.{total}
 use Rattle.written.specs.Flips.{leave, enter}
-use Rattle.laws.proofs.Sums.{total-set}
+use Rattle.laws.proofs.Basics.{by-eq}
+use Rattle.laws.proofs.Lists.{kept-set}
+use Rattle.laws.proofs.Sums.{total-set, total-has, total-most, total-fewer}
 use Rattle.machine.specs.Uncovered.{Uncovered, leaves, marks, enters, CanLeave, CanEnter}
 use Rattle.machine.specs.Tallies.{Tallies, CanRaise, CanLower}
-use Rattle.machine.specs.Agree.{Placed, Kept}
-use Rattle.machine.proofs.Basics.{by-eq, kept-set, total-has, total-le, total-lt}
+use Rattle.machine.specs.Holds.{Placed, Kept}
 use Rattle.machine.proofs.Status.{Standing, fresh, critical, bare, critical-on, critical-le, bare-on, bare-off, bare-le, Breaks}
 use Rattle.machine.proofs.Placed.{placed-keep, placed-leave, placed-enter}
 use Rattle.machine.proofs.Fronts.{front-leave, front-enter, leave-list-kept, leave-places-kept, enter-list-kept, enter-places-kept}
@@ -59,7 +60,7 @@ module _ (o : Tallies) (T : ℕ) (sts : List Standing) (us : List ℕ) (t : Tall
 
   -- a clause that is covered leaves room in the list
   free : (old .count ≡ 0 → ⊥) → t .uncovered .number < length sts
-  free wk = let e = h .number in let f = total-lt bare bare-le sts c fresh lc (bare-off old wk) in omega arith
+  free wk = let e = h .number in let f = total-fewer bare bare-le sts c fresh lc (bare-off old wk) in omega arith
 
   counts-with : (y : ℕ) → y ≡ s .count → (d : ℕ) → d < length next → getD (set (t .trues) c y) d 0 ≡ countIn next d
   counts-with y e d l =
@@ -69,90 +70,58 @@ module _ (o : Tallies) (T : ℕ) (sts : List Standing) (us : List ℕ) (t : Tall
       rw (q, count-new) (getD-set-same (t .trues) c y 0 (omega arith) ∙ e))
       (λ q. rw (count-off d q) (getD-set-other (t .trues) c d y 0 q ∙ h .counts d (rw (length-set sts c s) at l)))
 
-  -- the list where no clause leaves or enters
-  pub mid-list : {u : Uncovered} → Placed (length sts) (countIn next) (xorIn next) u → Placed (length next) (countIn next) (xorIn next) u
-  mid-list {u} x = subst (λ (n : ℕ). Placed n (countIn next) (xorIn next) u) (sym (length-set sts c s)) x
-
   module _ (bs : List ℕ) (y : ℕ) (ey : y ≡ s .count) (b : Breaks T next bs) (kb : (j : ℕ) → T ≤ j → getD bs j 0 ≡ getD (o .breaks) j 0) where
-    -- the entries past those in use, with the list's own
-    all-kept : {u : Uncovered} → ((j : ℕ) → length sts ≤ j → getD (u .list) j 0 ≡ getD (o .uncovered .list) j 0)
+    -- with an uncovered list u that is in order at the new standings, and is written us′
+    mid-with : {u : Uncovered} {us′ : List ℕ} → Placed (length sts) (countIn next) (xorIn next) u → u .number + bare old ≡ t .uncovered .number + bare s
+        → take (u .number) (u .list) ≡ us′ → ((j : ℕ) → length sts ≤ j → getD (u .list) j 0 ≡ getD (o .uncovered .list) j 0)
         → ((j : ℕ) → length sts ≤ j → getD (u .places) j 0 ≡ getD (o .uncovered .places) j 0)
-        → Kept (length next) T o (record { trues = set (t .trues) c y; breaks = bs; uncovered = u })
-    all-kept ku kp =
-        rw (length-set sts c s)
-        (record { trues-kept = kept-set (length sts) (t .trues) c y (o .trues) lc (h .kept .trues-kept); breaks-kept = kb; list-kept = ku; places-kept = kp })
+        → Mid o T next us′ (record { trues = set (t .trues) c y; breaks = bs; uncovered = u })
+    mid-with {u} placed size front ku kp =
+        record {
+          room = simp length-set (h .room);
+          counts = counts-with y ey;
+          breaks = b;
+          number = omega (arith, number-step, h .number);
+          list = subst (λ (n : ℕ). Placed n (countIn next) (xorIn next) u) (sym (length-set sts c s)) placed;
+          front = front;
+          kept =
+              rw (length-set sts c s)
+              (record { trues-kept = kept-set (length sts) (t .trues) c y (o .trues) lc (h .kept .trues-kept); breaks-kept = kb; list-kept = ku; places-kept = kp });
+        }
 
     pub mid-keep : (p : ℕ) → p ≡ s .xored → (old .count ≡ 0 → ⊥) → (s .count ≡ 0 → ⊥)
         → Mid o T next us (record { trues = set (t .trues) c y; breaks = bs; uncovered = marks c p (t .uncovered) })
     unfolding marks
     mid-keep p ep wk n =
-        record {
-          room = simp length-set (h .room);
-          counts = counts-with y ey;
-          breaks = b;
-          number =
-              let e₁ = number-step in
-              let e₂ = bare-off old wk in
-              let e₃ = bare-off s n in
-              let e₄ = h .number in
-              omega arith;
-          list =
-              mid-list
-              (placed-keep (length sts) (countIn sts) (countIn next) (xorIn sts) (xorIn next) (t .uncovered) (h .list) c lc count-off xored-off p wk
-              (λ q. n (sym count-new ∙ q)) (ep ∙ sym xored-new));
-          front = h .front;
-          kept = all-kept (h .kept .list-kept) (kept-set (length sts) (t .uncovered .places) c p (o .uncovered .places) lc (h .kept .places-kept));
-        }
+        mid-with
+        (placed-keep (length sts) (countIn sts) (countIn next) (xorIn sts) (xorIn next) (t .uncovered) (h .list) c lc count-off xored-off p wk
+        (λ q. n (sym count-new ∙ q)) (ep ∙ sym xored-new))
+        (omega (arith, bare-off old wk, bare-off s n))
+        (h .front)
+        (h .kept .list-kept)
+        (kept-set (length sts) (t .uncovered .places) c p (o .uncovered .places) lc (h .kept .places-kept))
 
     pub mid-leave : (p : ℕ) → p ≡ s .xored → old .count ≡ 0 → (s .count ≡ 0 → ⊥)
         → Mid o T next (leave c us) (record { trues = set (t .trues) c y; breaks = bs; uncovered = leaves c p (t .uncovered) })
-    unfolding leaves
     mid-leave p ep wk n =
-        record {
-          room = simp length-set (h .room);
-          counts = counts-with y ey;
-          breaks = b;
-          number =
-              let e₁ = number-step in
-              let e₂ = bare-on old wk in
-              let e₃ = bare-off s n in
-              let e₄ = h .number in
-              omega arith;
-          list =
-              mid-list
-              (placed-leave (length sts) (countIn sts) (countIn next) (xorIn sts) (xorIn next) (t .uncovered) (h .list) c lc count-off xored-off p wk
-              (λ q. n (sym count-new ∙ q)) (ep ∙ sym xored-new));
-          front = front-leave (length sts) (countIn sts) (xorIn sts) (t .uncovered) (h .list) us (h .front) c p lc wk;
-          kept =
-              all-kept
-              (leave-list-kept (length sts) (countIn sts) (xorIn sts) (t .uncovered) (h .list) c p lc (o .uncovered .list) wk (h .kept .list-kept))
-              (leave-places-kept (length sts) (countIn sts) (xorIn sts) (t .uncovered) (h .list) c p lc (o .uncovered .places) wk (h .kept .places-kept));
-        }
+        mid-with
+        (placed-leave (length sts) (countIn sts) (countIn next) (xorIn sts) (xorIn next) (t .uncovered) (h .list) c lc count-off xored-off p wk
+        (λ q. n (sym count-new ∙ q)) (ep ∙ sym xored-new))
+        (let some = h .list .low c lc wk in unfold leaves in omega (arith, bare-on old wk, bare-off s n))
+        (front-leave (length sts) (countIn sts) (xorIn sts) (t .uncovered) (h .list) us (h .front) c p lc wk)
+        (leave-list-kept (length sts) (countIn sts) (xorIn sts) (t .uncovered) (h .list) c p lc (o .uncovered .list) wk (h .kept .list-kept))
+        (leave-places-kept (length sts) (countIn sts) (xorIn sts) (t .uncovered) (h .list) c p lc (o .uncovered .places) wk (h .kept .places-kept))
 
     pub mid-enter : (old .count ≡ 0 → ⊥) → s .count ≡ 0
         → Mid o T next (enter c us) (record { trues = set (t .trues) c y; breaks = bs; uncovered = enters c (t .uncovered) })
-    unfolding enters
     mid-enter wk z =
-        record {
-          room = simp length-set (h .room);
-          counts = counts-with y ey;
-          breaks = b;
-          number =
-              let e₁ = number-step in
-              let e₂ = bare-off old wk in
-              let e₃ = bare-on s z in
-              let e₄ = h .number in
-              omega arith;
-          list =
-              mid-list
-              (placed-enter (length sts) (countIn sts) (countIn next) (xorIn sts) (xorIn next) (t .uncovered) (h .list) c lc count-off xored-off 0 wk (count-new ∙ z)
-              (free wk));
-          front = front-enter (length sts) (countIn sts) (xorIn sts) (t .uncovered) (h .list) us (h .front) c 0 (free wk);
-          kept =
-              all-kept
-              (enter-list-kept (length sts) (countIn sts) (xorIn sts) (t .uncovered) (h .list) c 0 lc (o .uncovered .list) (free wk) (h .kept .list-kept))
-              (enter-places-kept (length sts) (countIn sts) (xorIn sts) (t .uncovered) (h .list) c 0 lc (o .uncovered .places) (h .kept .places-kept));
-        }
+        mid-with
+        (placed-enter (length sts) (countIn sts) (countIn next) (xorIn sts) (xorIn next) (t .uncovered) (h .list) c lc count-off xored-off 0 wk (count-new ∙ z)
+        (free wk))
+        (unfold enters in omega (arith, bare-off old wk, bare-on s z))
+        (front-enter (length sts) (countIn sts) (xorIn sts) (t .uncovered) (h .list) us (h .front) c (free wk))
+        (enter-list-kept (length sts) (countIn sts) (xorIn sts) (t .uncovered) (h .list) c 0 lc (o .uncovered .list) (free wk) (h .kept .list-kept))
+        (enter-places-kept (length sts) (countIn sts) (xorIn sts) (t .uncovered) (h .list) c 0 lc (o .uncovered .places) (h .kept .places-kept))
 
 -- what the tables can do at clause c
 module _ (o : Tallies) (T : ℕ) (sts : List Standing) (us : List ℕ) (t : Tallies) (h : Mid o T sts us t) (top : ℕ) (few : length sts + 1 < top) (c : ℕ)
@@ -173,13 +142,13 @@ module _ (o : Tallies) (T : ℕ) (sts : List Standing) (us : List ℕ) (t : Tall
       let r₁ = i .places-room in
       let r₂ = i .list-room in
       let e = h .number in
-      let g = total-lt bare bare-le sts c fresh lc (bare-off (getD sts c fresh) nz) in
+      let g = total-fewer bare bare-le sts c fresh lc (bare-off (getD sts c fresh) nz) in
       record { placed = omega arith; room = omega arith; fits = omega arith }
 
   pub can-raise : (w : ℕ) → w < T → CanRaise top (t .breaks) w
   can-raise w lw =
       let e = h .breaks .all w lw in
-      let g = total-le (critical w) (critical-le w) sts in
+      let g = total-most (critical w) (critical-le w) sts in
       let r = h .breaks .room in
       record { within = omega arith; fits = omega arith }
 

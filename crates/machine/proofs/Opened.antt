@@ -1,20 +1,23 @@
 -- Written tables opened are walking tables of the same state, and closed again they are written tables. Assumes nothing.
 use mathlib.Core.Path.{_≡_, refl, ap, _∙_, sym, subst}
 use mathlib.Core.Bool.{true}
-use mathlib.Core.List.{List, [], _∷_}
+use mathlib.Core.List.{List, []}
 use Prim.Native.Nat.{ℕ, _*_, _/_, _<_}
 use native.Mathlib.Omega.{arith}
 use lib.ListN.{length, getD}
-use borrow.Author.Tests.{eq-eqb, ne-eqb}
+use lib.Dec.{ltb}
+use borrow.Author.Tests.{eq-eqb, ne-eqb, ltb-true}
 use Rattle.written.specs.Lists.{total, steps}
 use Rattle.written.specs.Clauses.{File, State, termOf, valueOf, trueCount}
 use Rattle.written.specs.Flips.{flipped}
+use Rattle.laws.proofs.Sums.{total-by}
+use Rattle.laws.proofs.All.{all-getD}
 use Rattle.laws.proofs.Flips.{flipped-file}
-use Rattle.machine.specs.Literals.{litOf, termIf, xorTrue, InWords}
-use Rattle.machine.specs.Whole.{Text, Whole, fixed, CanRead, countAt, xorAt, flipTerm}
-use Rattle.machine.specs.Passes.{withPlaces, rewritten, walkPlace, restPlace, CanRest, CanOpen, opened, closed}
-use Rattle.machine.specs.Agree.{Holds, InValues, AgreeAt, Resting, Walking, Kept}
-use Rattle.machine.proofs.Clause.{All, every-at}
+use Rattle.machine.specs.Literals.{valueIn, xorTrue, Readable}
+use Rattle.machine.specs.Moving.{Fixed, Moving, view, CanRead, countAt, xorAt, flipTerm}
+use Rattle.machine.specs.Passes.{withPlaces, rewritten, walkPlace, restPlace, CanClose, CanOpen, opened, closed}
+use Rattle.machine.specs.Holds.{HoldsClauses, HoldsValues, HoldsAt, Resting, Walking, Kept}
+use Rattle.machine.proofs.Clause.{xor-by}
 use Rattle.machine.proofs.Placed.{placed-same}
 use Rattle.machine.proofs.Flipped.{lits}
 use Rattle.machine.proofs.Standings.{kept-trans}
@@ -23,50 +26,33 @@ use Rattle.machine.proofs.Rewritten.{length-rewritten, rewritten-past, 
 
 -- ---- a clause read from the tables is the clause that is written
 
--- two readings of the literals that agree on a clause
-module _ (a b : ℕ → ℕ) where
-  total-same : (ls : List ℕ) → All (λ l. a l ≡ b l) ls → total a ls ≡ total b ls
-  unfolding All
-  total-same [] h = refl
-  total-same (l ∷ ls) h = rw (h .0, total-same ls (h .1))
-
-  xor-same : (ls : List ℕ) → All (λ l. a l ≡ b l) ls → xorTrue a ls ≡ xorTrue b ls
-  unfolding xorTrue termIf All
-  xor-same [] h = refl
-  xor-same (l ∷ ls) h = rw (h .0, xor-same ls (h .1))
-
-all-map : (P Q : ℕ → Type 0) → ((l : ℕ) → P l → Q l) → (ls : List ℕ) → All P ls → All Q ls
-unfolding All
-all-map P Q f [] h = tt
-all-map P Q f (l ∷ ls) h = (f l (h .0), all-map P Q f ls (h .1))
-
-module _ (top : ℕ) (cs : List (List ℕ)) (vs ws : List ℕ) (x : Text) (hd : Holds top (length vs) cs x) (v : InValues vs ws) (c : ℕ) (lc : c < length cs) where
-  lit-same : (l : ℕ) → l < 2 * length vs → litOf ws l ≡ valueOf vs l
-  unfolding litOf valueOf termOf
+module _ (top : ℕ) (cs : List (List ℕ)) (vs ws : List ℕ) (x : Fixed) (hd : HoldsClauses top (length vs) cs x) (v : HoldsValues vs ws) (c : ℕ) (lc : c < length cs) where
+  lit-same : (l : ℕ) → l < 2 * length vs → valueIn ws l ≡ valueOf vs l
+  unfolding valueIn valueOf termOf
   lit-same l h = rw (v .values (l / 2) (omega arith))
 
-  all-same : All (λ l. litOf ws l ≡ valueOf vs l) (getD cs c [])
-  all-same = all-map _ _ lit-same (getD cs c []) (lits top (length vs) cs x hd c lc)
+  low-at : (k : ℕ) → k < length (getD cs c []) → getD (getD cs c []) k 0 < 2 * length vs
+  low-at k l = ltb-true _ _ (all-getD (λ l. ltb l (2 * length vs)) (getD cs c []) k 0 l (lits top (length vs) cs x hd c lc))
 
-  pub count-at : countAt (fixed ws (x .starts) (x .literals)) c ≡ total (valueOf vs) (getD cs c [])
+  pub count-at : countAt (view ws (x .starts) (x .literals)) c ≡ total (valueOf vs) (getD cs c [])
   unfolding countAt
-  count-at = rw (hd .clause c lc) (total-same (litOf ws) (valueOf vs) (getD cs c []) all-same)
+  count-at = rw (hd .clause c lc) (total-by (valueIn ws) (valueOf vs) (getD cs c []) 0 (λ k l. lit-same _ (low-at k l)))
 
-  pub xor-at : xorAt (fixed ws (x .starts) (x .literals)) c ≡ xorTrue (valueOf vs) (getD cs c [])
+  pub xor-at : xorAt (view ws (x .starts) (x .literals)) c ≡ xorTrue (valueOf vs) (getD cs c [])
   unfolding xorAt
-  xor-at = rw (hd .clause c lc) (xor-same (litOf ws) (valueOf vs) (getD cs c []) all-same)
+  xor-at = rw (hd .clause c lc) (xor-by (valueIn ws) (valueOf vs) (getD cs c []) (λ k l. lit-same _ (low-at k l)))
 
-  pub can-read : CanRead (fixed ws (x .starts) (x .literals)) c
-  unfolding InWords
+  pub can-read : CanRead (view ws (x .starts) (x .literals)) c
+  unfolding Readable
   can-read =
       record {
         part = hd .clause-part c lc;
-        words = rw (hd .clause c lc) (λ k l. let e = every-at (λ l. l < 2 * length vs) (getD cs c []) (lits top (length vs) cs x hd c lc) k l in let r = v .room in omega arith);
+        words = rw (hd .clause c lc) (λ k l. omega (arith, low-at k l, v .room));
       }
 
 -- ---- the two passes
 
-module _ (top : ℕ) (s : State) (x : Text) (w : Whole) (ρ : ℕ → ℕ) (g : AgreeAt ρ top s x w) where
+module _ (top : ℕ) (s : State) (x : Fixed) (w : Moving) (ρ : ℕ → ℕ) (g : HoldsAt ρ top s x w) where
   abbrev n : ℕ
   n = length (s .file .clauses)
 
@@ -78,7 +64,7 @@ module _ (top : ℕ) (s : State) (x : Text) (w : Whole) (ρ : ℕ → ℕ) (g : 
 
   -- other places for the covered
   replaced : (ρ′ : ℕ → ℕ) (h : ℕ → ℕ → ℕ) → ((c p : ℕ) → c < n → κ c ≡ 0 → h c p ≡ p) → ((c p : ℕ) → c < n → (κ c ≡ 0 → ⊥) → h c p ≡ ρ′ c)
-      → AgreeAt ρ′ top s x (withPlaces (rewritten h n ps) w)
+      → HoldsAt ρ′ top s x (withPlaces (rewritten h n ps) w)
   replaced ρ′ h same new =
       let room = g .places .places-room in
       record {
@@ -99,7 +85,7 @@ module _ (top : ℕ) (s : State) (x : Text) (w : Whole) (ρ : ℕ → ℕ) (g : 
   pub opened-walking : Walking top s x (opened n x w)
   unfolding opened walkPlace
   opened-walking =
-      replaced (λ c. xorTrue (valueOf (s .values)) (getD (s .file .clauses) c [])) (walkPlace (fixed (w .words) (x .starts) (x .literals)) (w .tallies .trues))
+      replaced (λ c. xorTrue (valueOf (s .values)) (getD (s .file .clauses) c [])) (walkPlace (view (w .words) (x .starts) (x .literals)) (w .tallies .trues))
       (λ c p l z. rw (eq-eqb _ 0 (g .trues c l ∙ z)))
       (λ c p l z. rw (ne-eqb _ 0 (λ q. z (sym (g .trues c l) ∙ q))) (xor-at top (s .file .clauses) (s .values) (w .words) x (g .holds) (g .words) c l))
 
@@ -110,26 +96,26 @@ module _ (top : ℕ) (s : State) (x : Text) (w : Whole) (ρ : ℕ → ℕ) (g : 
       (λ c p l z. rw (eq-eqb _ 0 (g .trues c l ∙ z)))
       (λ c p l z. rw (ne-eqb _ 0 (λ q. z (sym (g .trues c l) ∙ q))))
 
-  pub close-can : CanRest n (w .tallies .trues) ps
+  pub close-can : CanClose n (w .tallies .trues) ps
   close-can = record { counts = g .trues-room; places = g .places .places-room }
 
-  pub open-can : CanOpen n (fixed (w .words) (x .starts) (x .literals)) (w .tallies .trues) ps
+  pub open-can : CanOpen n (view (w .words) (x .starts) (x .literals)) (w .tallies .trues) ps
   open-can = record { rest = close-can; read = λ c l. can-read top (s .file .clauses) (s .values) (w .words) x (g .holds) (g .words) c l }
 
 -- what is past the entries in use stays
-pub opened-kept : (n T : ℕ) (x : Text) (w : Whole) → Kept n T (w .tallies) (opened n x w .tallies)
+pub opened-kept : (n T : ℕ) (x : Fixed) (w : Moving) → Kept n T (w .tallies) (opened n x w .tallies)
 unfolding opened
 opened-kept n T x w =
     record { trues-kept = λ j l. refl; breaks-kept = λ j l. refl; list-kept = λ j l. refl; places-kept = λ j l. rewritten-past _ n (w .tallies .uncovered .places) j l }
 
-pub closed-kept : (n T : ℕ) (w : Whole) → Kept n T (w .tallies) (closed n w .tallies)
+pub closed-kept : (n T : ℕ) (w : Moving) → Kept n T (w .tallies) (closed n w .tallies)
 unfolding closed
 closed-kept n T w =
     record { trues-kept = λ j l. refl; breaks-kept = λ j l. refl; list-kept = λ j l. refl; places-kept = λ j l. rewritten-past _ n (w .tallies .uncovered .places) j l }
 
 -- ---- a flip list on written tables: opened, flipped and closed
 
-module _ (top : ℕ) (ts : List ℕ) (s : State) (x : Text) (w : Whole) (g : Resting top s x w) (b : termsOf (length (s .values)) ts ≡ true) where
+module _ (top : ℕ) (ts : List ℕ) (s : State) (x : Fixed) (w : Moving) (g : Resting top s x w) (b : termsOf (length (s .values)) ts ≡ true) where
   abbrev size : ℕ
   size = length (s .file .clauses)
 

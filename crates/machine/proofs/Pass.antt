@@ -46,7 +46,7 @@ module _ (o : Tallies) (T N x : ℕ) (from to : List ℕ → Standing) (P : ℕ 
       let group : (s : Standing) (ss : List Standing) → (pre ++ s ∷ []) ++ ss ≡ pre ++ s ∷ ss = λ s ss. append-assoc pre (s ∷ []) ss in
       let size : (s s′ : Standing) → length (pre ++ s′ ∷ map from cs) ≡ N → length ((pre ++ s ∷ []) ++ map from cs) ≡ N =
       λ s s′ e. ap length (group s (map from cs)) ∙ length-append pre (s ∷ map from cs) ∙ sym (length-append pre (s′ ∷ map from cs)) ∙ e in
-      let whole : length (pre ++ from ls ∷ map from cs) ≡ length pre + length (from ls ∷ map from cs) = length-append pre (from ls ∷ map from cs) in
+      let long : length (pre ++ from ls ∷ map from cs) ≡ length pre + length (from ls ∷ map from cs) = length-append pre (from ls ∷ map from cs) in
       by-cases (has x ls)
       (λ e.
       let r = law i ls (h .0) e (pre ++ from ls ∷ map from cs) us t m len (omega arith) (getD-at pre (from ls) (map from cs) fresh i lp) in

@@ -6,8 +6,8 @@ use native.Mathlib.Omega.{arith}
 use lib.ListN.{length, getD, set, length-set}
 use lib.Seq.{getD-set-same, getD-set-other}
 use Rattle.machine.specs.Uncovered.{Uncovered, leaves, marks, enters}
-use Rattle.machine.specs.Agree.{Placed}
-use Rattle.machine.proofs.Basics.{by-eq}
+use Rattle.machine.specs.Holds.{Placed}
+use Rattle.laws.proofs.Basics.{by-eq}
 
 -- other places, with the same uncovered clauses
 pub placed-same : (C : ℕ) (κ κ′ ρ ρ′ : ℕ → ℕ) (u : Uncovered) (ps : List ℕ) → Placed C κ ρ u → ((d : ℕ) → d < C → κ d ≡ 0 → κ′ d ≡ 0)

@@ -1,27 +1,27 @@
 -- Counts worked out afresh leave walking tables of the file at the values, the uncovered list rising. Assumes nothing.
-use mathlib.Core.Path.{_≡_, refl, ap, _∙_}
-use mathlib.Core.Bool.{Bool, cond}
-use mathlib.Core.List.{List, [], _∷_, _++_, map}
-use Prim.Native.Nat.{ℕ, zero, suc, _+_, _<_, _≤_}
+use mathlib.Core.Path.{_≡_, refl, _∙_}
+use mathlib.Core.Bool.{cond}
+use mathlib.Core.List.{List, [], _∷_, map}
+use Prim.Native.Nat.{ℕ, zero, suc, _<_, _≤_}
 use native.Mathlib.Nat.{zero-add}
 use native.Mathlib.Omega.{arith}
 use lib.ListN.{length, getD, take, length-map}
 use lib.Seq.{take-suc, take-length, length-take-le}
 use lib.Dec.{eqb}
-use Rattle.written.specs.Lists.{total, whereFrom}
+use Rattle.written.specs.Lists.{total}
 use Rattle.written.specs.Clauses.{File, State, valueOf, trueCount, isUncovered, uncoveredIn, afresh}
 use Rattle.written.specs.Flips.{enter}
-use Rattle.laws.proofs.Basics.{by-cases}
+use Rattle.laws.proofs.Lists.{map-append, where-snoc}
+use Rattle.laws.proofs.Literals.{value-le}
 use Rattle.machine.specs.Literals.{xorTrue}
 use Rattle.machine.specs.Tallies.{Tallies, SameSizes}
-use Rattle.machine.specs.Whole.{Text, Whole, whole, Fixed, fixed, countAt, xorAt}
+use Rattle.machine.specs.Moving.{Fixed, Moving, moving, View, view, countAt, xorAt}
 use Rattle.machine.specs.Passes.{upTo, zeroed, CanCount, blank, counted, recounted}
-use Rattle.machine.specs.Agree.{InValues, AgreeAt, Ready, Walking, Kept}
-use Rattle.machine.proofs.Basics.{map-snoc}
+use Rattle.machine.specs.Holds.{HoldsValues, HoldsAt, Ready, Walking, Kept}
 use Rattle.machine.proofs.Clause.{one-low}
 use Rattle.machine.proofs.Status.{Standing, status}
 use Rattle.machine.proofs.Mid.{Mid}
-use Rattle.machine.proofs.Flipped.{value-le, lits}
+use Rattle.machine.proofs.Flipped.{lits}
 use Rattle.machine.proofs.Standings.{kept-refl, kept-trans, from-mid}
 use Rattle.machine.proofs.Rewritten.{length-rewritten, rewritten-past, rewritten-at}
 use Rattle.machine.proofs.Sizes.{counted-sizes}
@@ -29,21 +29,13 @@ use Rattle.machine.proofs.Opened.{count-at, xor-at, can-read}
 use Rattle.machine.proofs.Counted.{counted-one, can-count}
 
 -- the uncovered clauses with one clause more
-where-more : {A : Type 0} (p : A → Bool) (i : ℕ) (xs : List A) (y : A)
-    → whereFrom i p (xs ++ y ∷ []) ≡ cond (p y) (whereFrom i p xs ++ (i + length xs) ∷ []) (whereFrom i p xs)
-where-more p i [] y = by-cases (p y) (λ q. rw q (ap (λ (k : ℕ). k ∷ []) (omega arith))) (λ q. rw q)
-where-more p i (x ∷ xs) y =
-    let e = where-more p (suc i) xs y in
-    let n : suc i + length xs ≡ i + suc (length xs) = omega arith in
-    by-cases (p x) (λ q. rw (q, e, n) (by-cases (p y) (λ r. rw r) (λ r. rw r))) (λ q. rw (q, e, n))
-
 uncovered-more : (vs : List ℕ) (cs : List (List ℕ)) (n : ℕ) → n < length cs
     → uncoveredIn vs (take (suc n) cs) ≡ cond (eqb (total (valueOf vs) (getD cs n [])) 0) (enter n (uncoveredIn vs (take n cs))) (uncoveredIn vs (take n cs))
 unfolding uncoveredIn isUncovered trueCount enter
 uncovered-more vs cs n l =
-    rw (take-suc cs n [] l, where-more (isUncovered vs) 0 (take n cs) (getD cs n []), length-take-le n cs (let k : n ≤ length cs = omega arith in k), zero-add n)
+    rw (take-suc cs n [] l, where-snoc (isUncovered vs) 0 (take n cs) (getD cs n []), length-take-le n cs (let k : n ≤ length cs = omega arith in k), zero-add n)
 
-module _ (top : ℕ) (f : File) (vs : List ℕ) (x : Text) (w : Whole) (g : Ready top f vs x w) where
+module _ (top : ℕ) (f : File) (vs : List ℕ) (x : Fixed) (w : Moving) (g : Ready top f vs x w) where
   abbrev cs : List (List ℕ)
   cs = f .clauses
 
@@ -53,8 +45,8 @@ module _ (top : ℕ) (f : File) (vs : List ℕ) (x : Text) (w : Whole) (g : Read
   abbrev A : List ℕ → Standing
   A = status (valueOf vs)
 
-  abbrev read : Fixed
-  read = fixed (w .words) (x .starts) (x .literals)
+  abbrev read : View
+  read = view (w .words) (x .starts) (x .literals)
 
   abbrev none : Tallies
   none = blank (length cs) T (w .tallies)
@@ -127,7 +119,7 @@ module _ (top : ℕ) (f : File) (vs : List ℕ) (x : Text) (w : Whole) (g : Read
     next : Mid none T (map A (take (suc n) cs)) (uncoveredIn vs (take (suc n) cs)) (at (suc n))
     unfolding counted upTo
     next =
-        rw (uncovered-more vs cs n l, take-suc cs n [] l, map-snoc A (take n cs) (getD cs n []))
+        rw (uncovered-more vs cs n l, take-suc cs n [] l, map-append A (take n cs) (getD cs n [] ∷ []))
         (counted-one none T (map A (take n cs)) (uncoveredIn vs (take n cs)) (at n) m n pre trues-here list-here places-here zero-here
         read (valueOf vs) (getD cs n []) low-here count-here xor-here)
 
@@ -172,9 +164,9 @@ module _ (top : ℕ) (f : File) (vs : List ℕ) (x : Text) (w : Whole) (g : Read
   recounted-kept = kept-trans blank-kept (rw (length-map cs A) at (whole-mid .kept))
 
 -- tables that hold a state are ready for other values of its file
-pub agree-ready : (ρ : ℕ → ℕ) (top : ℕ) (s : State) (x : Text) (w : Whole) → AgreeAt ρ top s x w → (vs ws : List ℕ) → length vs ≡ length (s .values)
-    → InValues vs ws
-    → Ready top (s .file) vs x (whole ws (w .tallies))
+pub agree-ready : (ρ : ℕ → ℕ) (top : ℕ) (s : State) (x : Fixed) (w : Moving) → HoldsAt ρ top s x w → (vs ws : List ℕ) → length vs ≡ length (s .values)
+    → HoldsValues vs ws
+    → Ready top (s .file) vs x (moving ws (w .tallies))
 agree-ready ρ top s x w g vs ws e v =
     record {
       holds = rw e (g .holds);

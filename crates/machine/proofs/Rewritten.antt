@@ -7,9 +7,9 @@ use native.Mathlib.Omega.{arith}
 use lib.ListN.{length, getD, set, length-set}
 use lib.Seq.{getD-set-same, getD-set-other, set-getD}
 use borrow.Author.Tests.{eq-eqb, ne-eqb}
-use Rattle.machine.specs.Whole.{Fixed, xorAt}
+use Rattle.machine.specs.Moving.{View, xorAt}
 use Rattle.machine.specs.Passes.{upTo, rewritten, walkPlace, restPlace}
-use Rattle.machine.proofs.Basics.{by-eq}
+use Rattle.laws.proofs.Basics.{by-eq}
 
 -- what a pass leaves
 module _ (h : ℕ → ℕ → ℕ) where
@@ -56,7 +56,7 @@ pub up-end : {S : Type 0} (g : ℕ → S → S) (i n : ℕ) (s t : S) → t ≡ 
 up-end g i n s t e l m = let q : i ≡ n = omega arith in e ∙ ap (λ (k : ℕ). upTo g k s) q
 
 -- one entry of each pass
-module _ (f : Fixed) (ts ps : List ℕ) (c : ℕ) where
+module _ (f : View) (ts ps : List ℕ) (c : ℕ) where
   pub walk-bare : getD ts c 0 ≡ 0 → ps ≡ set ps c (walkPlace f ts c (getD ps c 0))
   unfolding walkPlace
   walk-bare z = rw (eq-eqb _ 0 z) (sym (set-getD ps c 0))

@@ -9,9 +9,9 @@ use lib.Seq.{drop-cons}
 use lib.Bits.{bitXor, xor-zero-r}
 use Rattle.written.specs.Lists.{total}
 use Rattle.written.specs.Agreement.{partOf}
-use Rattle.machine.specs.Literals.{litOf, termIf, xorTrue}
-use Rattle.machine.specs.Whole.{Fixed, countAt, xorAt}
-use Rattle.machine.proofs.Basics.{xor-assoc}
+use Rattle.machine.specs.Literals.{valueIn, termIf, xorTrue}
+use Rattle.machine.specs.Moving.{View, countAt, xorAt}
+use Rattle.machine.proofs.Xor.{xor-assoc}
 
 module _ (val : ℕ → ℕ) (ls : List ℕ) (i x : ℕ) where
   pub xor-more : {y : ℕ} → i < length ls → y ≡ termIf val (getD ls i 0) → bitXor x (xorTrue val (drop i ls)) ≡ xorTrue val ls
@@ -31,16 +31,16 @@ module _ (val : ℕ → ℕ) (ls : List ℕ) (i k : ℕ) where
   pub count-done : length ls ≤ i → k + total val (drop i ls) ≡ total val ls → k ≡ total val ls
   count-done h p = let q : k + 0 ≡ total val ls = rw (drop-of-length-le ls h) at p in omega arith
 
-pub value-low : (ws : List ℕ) (l : ℕ) {y : ℕ} → y ≡ litOf ws l → y ≤ 1
-unfolding litOf
+pub value-low : (ws : List ℕ) (l : ℕ) {y : ℕ} → y ≡ valueIn ws l → y ≤ 1
+unfolding valueIn
 value-low ws l e = omega arith
 
 -- a clause that was read
-module _ (f : Fixed) (c : ℕ) {ls : List ℕ} (e : ls ≡ partOf (f .starts) (f .literals) c) where
-  pub is-count : {k : ℕ} → k ≡ total (litOf (f .words)) ls → k ≡ countAt f c
+module _ (f : View) (c : ℕ) {ls : List ℕ} (e : ls ≡ partOf (f .starts) (f .literals) c) where
+  pub is-count : {k : ℕ} → k ≡ total (valueIn (f .words)) ls → k ≡ countAt f c
   unfolding countAt
-  is-count q = q ∙ ap (total (litOf (f .words))) e
+  is-count q = q ∙ ap (total (valueIn (f .words))) e
 
-  pub is-xor : {w : ℕ} → w ≡ xorTrue (litOf (f .words)) ls → w ≡ xorAt f c
+  pub is-xor : {w : ℕ} → w ≡ xorTrue (valueIn (f .words)) ls → w ≡ xorAt f c
   unfolding xorAt
-  is-xor q = q ∙ ap (xorTrue (litOf (f .words))) e
+  is-xor q = q ∙ ap (xorTrue (valueIn (f .words))) e

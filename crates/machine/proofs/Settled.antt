@@ -1,17 +1,18 @@
 -- A written state settles every entry: two tallies that hold it, as long and the same past the entries in use, are equal. Assumes nothing.
 use mathlib.Core.Path.{_≡_, ap, _∙_, sym}
-use mathlib.Core.List.{List, []}
+use mathlib.Core.List.{[]}
 use Prim.Native.Nat.{ℕ, _<_}
 use native.Mathlib.Omega.{arith}
 use lib.ListN.{length, getD}
-use lib.Seq.{ext-getD, getD-take}
+use lib.Seq.{ext-getD}
 use Rattle.written.specs.Clauses.{State, trueCount}
 use Rattle.machine.specs.Tallies.{SameSizes}
-use Rattle.machine.specs.Whole.{Text, Whole}
-use Rattle.machine.specs.Agree.{AgreeAt, Kept}
-use Rattle.machine.proofs.Basics.{by-eq, by-lt}
+use Rattle.machine.specs.Moving.{Fixed, Moving}
+use Rattle.machine.specs.Holds.{HoldsAt, Kept}
+use Rattle.laws.proofs.Basics.{by-eq, by-lt}
+use Rattle.machine.proofs.Fronts.{front-at}
 
-module _ (ρ : ℕ → ℕ) (top : ℕ) (s : State) (x y : Text) (w v : Whole) (a : AgreeAt ρ top s x w) (b : AgreeAt ρ top s y v)
+module _ (ρ : ℕ → ℕ) (top : ℕ) (s : State) (x y : Fixed) (w v : Moving) (a : HoldsAt ρ top s x w) (b : HoldsAt ρ top s y v)
     (z : SameSizes (w .tallies) (v .tallies))
     (k : Kept (length (s .file .clauses)) (length (s .values)) (v .tallies) (w .tallies)) where
   abbrev C : ℕ
@@ -31,8 +32,8 @@ module _ (ρ : ℕ → ℕ) (top : ℕ) (s : State) (x y : Text) (w v : Whole) (
       let e = number-same in
       by-lt i (w .tallies .uncovered .number)
       (λ q.
-      sym (getD-take (w .tallies .uncovered .number) (w .tallies .uncovered .list) i 0 q) ∙ ap (λ (l : List ℕ). getD l i 0) (a .list ∙ sym (b .list))
-      ∙ getD-take (v .tallies .uncovered .number) (v .tallies .uncovered .list) i 0 (omega arith))
+      sym (front-at C _ ρ (w .tallies .uncovered) (a .places) (s .uncovered) (a .list) i q)
+      ∙ front-at C _ ρ (v .tallies .uncovered) (b .places) (s .uncovered) (b .list) i (omega arith))
       (λ q. by-lt i C (λ l. a .places .rest i q l ∙ sym (b .places .rest i (omega arith) l)) (λ l. k .list-kept i l))
 
   places-at : (i : ℕ) → getD (w .tallies .uncovered .places) i 0 ≡ getD (v .tallies .uncovered .places) i 0

@@ -10,7 +10,7 @@ use Rattle.written.specs.Agreement.{partOf}
 use Rattle.laws.proofs.Basics.{by-cases}
 use Rattle.machine.specs.Uncovered.{leaves, marks, enters}
 use Rattle.machine.specs.Tallies.{Tallies, raised, lowered, gainBreaks, gainOne, loseBreaks, loseOne, SameSizes}
-use Rattle.machine.specs.Whole.{Text, Whole, Fixed, countAt, upOf, downOf, gained, lost, flipTerm}
+use Rattle.machine.specs.Moving.{Fixed, Moving, View, countAt, upOf, downOf, gained, lost, flipTerm}
 use Rattle.machine.specs.Passes.{upTo, zeroed, opened, closed, countOne, blank, counted, recounted}
 use Rattle.machine.proofs.Rewritten.{length-rewritten}
 
@@ -57,7 +57,7 @@ module _ (v c : ℕ) (t : Tallies) where
         places-size = by-cases (eqb n 1) (λ e. rw e (length-set (t .uncovered .places) _ _)) (λ e. rw e (length-set (t .uncovered .places) _ _));
       }
 
-pub count-sizes : (f : Fixed) (c : ℕ) (t : Tallies) → SameSizes (countOne f c t) t
+pub count-sizes : (f : View) (c : ℕ) (t : Tallies) → SameSizes (countOne f c t) t
 unfolding countOne raised enters marks
 count-sizes f c t =
     record {
@@ -73,26 +73,26 @@ pub steps-sizes : (g : ℕ → Tallies → Tallies) → ((c : ℕ) (t : Tallies)
 steps-sizes g h [] t = sizes-refl t
 steps-sizes g h (c ∷ run) t = sizes-trans (steps-sizes g h run (g c t)) (h c t)
 
-pub flip-sizes : (x : Text) (v : ℕ) (w : Whole) → SameSizes (flipTerm x v w .tallies) (w .tallies)
+pub flip-sizes : (x : Fixed) (v : ℕ) (w : Moving) → SameSizes (flipTerm x v w .tallies) (w .tallies)
 unfolding flipTerm gained lost
 flip-sizes x v w =
     sizes-trans (steps-sizes (loseOne v) (lose-sizes v) (partOf (x .occurrenceStarts) (x .occurrences) (downOf (w .words) v)) (gained x v (w .words) (w .tallies)))
     (steps-sizes (gainOne v) (gain-sizes v) (partOf (x .occurrenceStarts) (x .occurrences) (upOf (w .words) v)) (w .tallies))
 
-pub flips-sizes : (x : Text) (ts : List ℕ) (w : Whole) → SameSizes (steps (flipTerm x) ts w .tallies) (w .tallies)
+pub flips-sizes : (x : Fixed) (ts : List ℕ) (w : Moving) → SameSizes (steps (flipTerm x) ts w .tallies) (w .tallies)
 flips-sizes x [] w = sizes-refl (w .tallies)
 flips-sizes x (v ∷ ts) w = sizes-trans (flips-sizes x ts (flipTerm x v w)) (flip-sizes x v w)
 
-pub counted-sizes : (f : Fixed) (n : ℕ) (t : Tallies) → SameSizes (counted n f t) t
+pub counted-sizes : (f : View) (n : ℕ) (t : Tallies) → SameSizes (counted n f t) t
 unfolding counted upTo
 counted-sizes f zero t = sizes-refl t
 counted-sizes f (suc n) t = sizes-trans (count-sizes f n (counted n f t)) (counted-sizes f n t)
 
-pub opened-sizes : (n : ℕ) (x : Text) (w : Whole) → SameSizes (opened n x w .tallies) (w .tallies)
+pub opened-sizes : (n : ℕ) (x : Fixed) (w : Moving) → SameSizes (opened n x w .tallies) (w .tallies)
 unfolding opened
 opened-sizes n x w = record { trues-size = refl; breaks-size = refl; list-size = refl; places-size = length-rewritten _ n (w .tallies .uncovered .places) }
 
-pub closed-sizes : (n : ℕ) (w : Whole) → SameSizes (closed n w .tallies) (w .tallies)
+pub closed-sizes : (n : ℕ) (w : Moving) → SameSizes (closed n w .tallies) (w .tallies)
 unfolding closed
 closed-sizes n w = record { trues-size = refl; breaks-size = refl; list-size = refl; places-size = length-rewritten _ n (w .tallies .uncovered .places) }
 
@@ -101,6 +101,6 @@ unfolding blank zeroed
 blank-sizes C T t =
     record { trues-size = refl; breaks-size = length-rewritten _ T (t .breaks); list-size = length-rewritten _ C (t .uncovered .list); places-size = refl }
 
-pub recounted-sizes : (C T : ℕ) (x : Text) (w : Whole) → SameSizes (recounted C T x w .tallies) (w .tallies)
+pub recounted-sizes : (C T : ℕ) (x : Fixed) (w : Moving) → SameSizes (recounted C T x w .tallies) (w .tallies)
 unfolding recounted
 recounted-sizes C T x w = sizes-trans (counted-sizes _ C (blank C T (w .tallies))) (blank-sizes C T (w .tallies))

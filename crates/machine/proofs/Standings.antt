@@ -5,8 +5,8 @@ use Prim.Native.Nat.{ℕ}
 use lib.ListN.{length, length-map}
 use Rattle.written.specs.Clauses.{State, valueOf}
 use Rattle.machine.specs.Tallies.{Tallies}
-use Rattle.machine.specs.Whole.{Text, Whole}
-use Rattle.machine.specs.Agree.{Holds, InValues, Walking, Kept}
+use Rattle.machine.specs.Moving.{Fixed, Moving}
+use Rattle.machine.specs.Holds.{HoldsClauses, HoldsValues, Walking, Kept}
 use Rattle.machine.proofs.Status.{status}
 use Rattle.machine.proofs.Mid.{Mid}
 use Rattle.machine.proofs.Counts.{total-critical, total-bare, count-is, xored-is}
@@ -25,7 +25,7 @@ kept-trans a b =
     }
 
 -- from walking tables to the clauses' standings, and back
-module _ (top : ℕ) (s : State) (x : Text) (w : Whole) where
+module _ (top : ℕ) (s : State) (x : Fixed) (w : Moving) where
   abbrev cs : List (List ℕ)
   cs = s .file .clauses
 
@@ -44,7 +44,7 @@ module _ (top : ℕ) (s : State) (x : Text) (w : Whole) where
         kept = kept-refl (length (map (status (valueOf vs)) cs)) (length vs) (w .tallies);
       }
 
-  pub from-mid : Holds top (length vs) cs x → InValues vs (w .words) → {o : Tallies}
+  pub from-mid : HoldsClauses top (length vs) cs x → HoldsValues vs (w .words) → {o : Tallies}
       → Mid o (length vs) (map (status (valueOf vs)) cs) (s .uncovered) (w .tallies) → Walking top s x w
   from-mid h v m =
       record {

@@ -1,5 +1,5 @@
 -- How each clause stands, by its count of true literals and the xor of their terms, and the break counts that this gives. Assumes nothing.
-use mathlib.Core.Path.{_≡_, ap, _∙_, sym}
+use mathlib.Core.Path.{_≡_, _∙_, sym}
 use mathlib.Core.Bool.{cond}
 use mathlib.Core.List.{List}
 use Prim.Native.Nat.{ℕ, _+_, _-_, _≤_, _<_}
@@ -9,11 +9,10 @@ use lib.Seq.{getD-set-same, getD-set-other}
 use lib.Dec.{eqb}
 use borrow.Author.Tests.{eq-eqb, ne-eqb}
 use Rattle.written.specs.Lists.{total}
-use Rattle.laws.proofs.Basics.{by-cases}
-use Rattle.laws.proofs.Sums.{total-set}
+use Rattle.laws.proofs.Basics.{by-cases, by-eq, by-test, one-most}
+use Rattle.laws.proofs.Sums.{total-has, total-set}
 use Rattle.machine.specs.Literals.{xorTrue}
 use Rattle.machine.specs.Tallies.{raised, lowered}
-use Rattle.machine.proofs.Basics.{by-eq}
 
 -- a clause's count of true literals, and the xor of their terms
 pub record Standing : Type 0 where
@@ -48,10 +47,8 @@ module _ (w : ℕ) (s : Standing) where
   critical-other h = by-cases (eqb (s .count) 1) (λ e. rw (e, ne-eqb _ _ h)) (λ e. rw e)
 
   pub critical-le : critical w s ≤ 1
-  critical-le =
-      by-eq (s .xored) w
-      (λ h. by-eq (s .count) 1 (λ e. let q = critical-on e h in omega arith) (λ e. let q = critical-off e in omega arith))
-      (λ h. let q = critical-other h in omega arith)
+  unfolding critical
+  critical-le = by-test (λ (n : ℕ). n ≤ 1) (eqb (s .count) 1) (λ e. one-most (eqb (s .xored) w)) (λ e. omega arith)
 
 module _ (s : Standing) where
   pub bare-on : s .count ≡ 0 → bare s ≡ 1
@@ -63,7 +60,8 @@ module _ (s : Standing) where
   bare-off e = rw (ne-eqb _ _ e)
 
   pub bare-le : bare s ≤ 1
-  bare-le = by-eq (s .count) 0 (λ e. let q = bare-on e in omega arith) (λ e. let q = bare-off e in omega arith)
+  unfolding bare
+  bare-le = one-most (eqb (s .count) 0)
 
 -- bs holds, for each term below T, the number of clauses that it alone makes true
 pub record Breaks (T : ℕ) (sts : List Standing) (bs : List ℕ) : Type 0 where
@@ -84,48 +82,27 @@ module _ (T : ℕ) (sts : List Standing) (bs : List ℕ) (h : Breaks T sts bs) (
         all = λ w lw. let e₁ = step w in let e₂ = critical-off w old o in let e₃ = critical-off w s n in let e₄ = h .all w lw in omega arith;
       }
 
-  pub breaks-raise : (v : ℕ) → v < T → (old .count ≡ 1 → ⊥) → s .count ≡ 1 → s .xored ≡ v → Breaks T (set sts c s) (raised bs v)
-  unfolding raised
-  breaks-raise v lv o n b =
+  -- one entry changes as its term's part in the clause does
+  breaks-set : (v y : ℕ) → v < T → y + critical v old ≡ getD bs v 0 + critical v s → ((w : ℕ) → (w ≡ v → ⊥) → critical w old ≡ critical w s)
+      → Breaks T (set sts c s) (set bs v y)
+  breaks-set v y lv here other =
       record {
         room = simp length-set (h .room);
         all = λ w lw.
-            let e₁ = step w in
-            let e₂ = critical-off w old o in
-            let e₄ = h .all w lw in
             by-eq w v
-            (λ e.
-            let e₃ = critical-on w s n (b ∙ sym e) in
-            let r = h .room in
-            let g = getD-set-same bs v (getD bs v 0 + 1) 0 (omega arith) in
-            let e₅ = ap (λ (i : ℕ). getD (set bs v (getD bs v 0 + 1)) i 0) e in
-            let e₆ = ap (λ (i : ℕ). getD bs i 0) e in
-            omega arith)
-            (λ e.
-            let e₃ = critical-other w s (λ q. e (sym q ∙ b)) in
-            let g = getD-set-other bs v w (getD bs v 0 + 1) 0 e in
-            omega arith);
+            (λ e. rw (e, getD-set-same bs v y 0 (omega (arith, h .room))) (omega (arith, step v, h .all v lv)))
+            (λ e. rw (getD-set-other bs v w y 0 e) (omega (arith, step w, h .all w lw, other w e)));
       }
+
+  pub breaks-raise : (v : ℕ) → v < T → (old .count ≡ 1 → ⊥) → s .count ≡ 1 → s .xored ≡ v → Breaks T (set sts c s) (raised bs v)
+  unfolding raised
+  breaks-raise v lv o n b =
+      breaks-set v (getD bs v 0 + 1) lv (omega (arith, critical-off v old o, critical-on v s n b))
+      (λ w e. critical-off w old o ∙ sym (critical-other w s (λ q. e (sym q ∙ b))))
 
   pub breaks-lower : (v : ℕ) → v < T → old .count ≡ 1 → old .xored ≡ v → (s .count ≡ 1 → ⊥) → Breaks T (set sts c s) (lowered bs v)
   unfolding lowered
   breaks-lower v lv o b n =
-      record {
-        room = simp length-set (h .room);
-        all = λ w lw.
-            let e₁ = step w in
-            let e₂ = critical-off w s n in
-            let e₄ = h .all w lw in
-            by-eq w v
-            (λ e.
-            let e₃ = critical-on w old o (b ∙ sym e) in
-            let r = h .room in
-            let g = getD-set-same bs v (getD bs v 0 - 1) 0 (omega arith) in
-            let e₅ = ap (λ (i : ℕ). getD (set bs v (getD bs v 0 - 1)) i 0) e in
-            let e₆ = ap (λ (i : ℕ). getD bs i 0) e in
-            omega arith)
-            (λ e.
-            let e₃ = critical-other w old (λ q. e (sym q ∙ b)) in
-            let g = getD-set-other bs v w (getD bs v 0 - 1) 0 e in
-            omega arith);
-      }
+      let some = total-has (critical v) sts c fresh l in
+      breaks-set v (getD bs v 0 - 1) lv (omega (arith, critical-on v old o b, critical-off v s n, h .all v lv))
+      (λ w e. critical-other w old (λ q. e (sym q ∙ b)) ∙ sym (critical-off w s n))

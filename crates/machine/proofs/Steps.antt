@@ -12,9 +12,9 @@ use lib.Bits.{bitXor}
 use borrow.Author.Tests.{eq-eqb, ne-eqb}
 use Rattle.machine.specs.Uncovered.{Uncovered, leaves, marks, enters}
 use Rattle.machine.specs.Tallies.{Tallies, raised, lowered, gainOne, gainBreaks, loseOne, loseBreaks, pickOf, hitOf}
-use Rattle.machine.specs.Whole.{Fixed, countAt, xorAt}
+use Rattle.machine.specs.Moving.{View, countAt, xorAt}
 use Rattle.machine.specs.Passes.{countOne}
-use Rattle.machine.proofs.Basics.{by-eq}
+use Rattle.laws.proofs.Basics.{by-eq}
 
 -- tables with equal parts are equal
 made : {ts ts′ bs bs′ : List ℕ} {u u′ : Uncovered} → ts ≡ ts′ → bs ≡ bs′ → u ≡ u′
@@ -105,7 +105,7 @@ module _ (v c : ℕ) (t : Tallies) {ts bs : List ℕ} {u : Uncovered} {i d : ℕ
   lose-light k e₁ e₂ ei ed e₃ = rw (ne-eqb _ _ k) (made e₁ (e₂ ∙ raise-is (t .breaks) (getD (t .trues) c 0) 2 (bitXor (getD (t .uncovered .places) c 0) v) v ei ed) e₃)
 
 -- `countOne` by its cases
-module _ (f : Fixed) (c : ℕ) (t : Tallies) {ts bs : List ℕ} {u : Uncovered} {k : ℕ} (ek : k ≡ countAt f c) where
+module _ (f : View) (c : ℕ) (t : Tallies) {ts bs : List ℕ} {u : Uncovered} {k : ℕ} (ek : k ≡ countAt f c) where
   pub count-0 : k ≡ 0 → ts ≡ set (t .trues) c k → bs ≡ t .breaks → u ≡ enters c (t .uncovered)
       → record { trues = ts; breaks = bs; uncovered = u } ≡ countOne f c t
   unfolding countOne

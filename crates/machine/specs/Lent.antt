@@ -6,14 +6,15 @@ use lib.ListN.{length, getD}
 use Rattle.written.specs.Clauses.{State}
 use Rattle.written.specs.Tables.{Tables, inUse}
 use Rattle.machine.specs.Tallies.{tallies}
-use Rattle.machine.specs.Whole.{Text, text, Whole, whole}
+use Rattle.machine.specs.Moving.{Fixed, fixed, Moving, moving}
 
-abbrev pub textIn : Tables → Text
-textIn t = text (t .starts) (t .literals) (t .occurrenceStarts) (t .occurrences)
+-- the tables that a flip only reads
+abbrev pub fixedIn : Tables → Fixed
+fixedIn t = fixed (t .starts) (t .literals) (t .occurrenceStarts) (t .occurrences)
 
--- with the number of uncovered clauses that goes beside the tables
-abbrev pub wholeIn : ℕ → Tables → Whole
-wholeIn n t = whole (t .values) (tallies (t .trues) (t .breaks) (t .uncovered) (t .places) n)
+-- those that it writes, with the number of uncovered clauses that goes beside the tables
+abbrev pub movingIn : ℕ → Tables → Moving
+movingIn n t = moving (t .values) (tallies (t .trues) (t .breaks) (t .uncovered) (t .places) n)
 
 -- ys begin with xs
 pub record Begins (xs ys : List ℕ) : Type 0 where

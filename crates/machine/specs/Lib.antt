@@ -2,7 +2,7 @@
 pub mod Literals
 pub mod Uncovered
 pub mod Tallies
-pub mod Whole
+pub mod Moving
 pub mod Passes
-pub mod Agree
+pub mod Holds
 pub mod Lent

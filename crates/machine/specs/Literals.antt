@@ -9,8 +9,8 @@ use Rattle.words.specs.Words.{bitAt}
 use Rattle.written.specs.Clauses.{termOf}
 
 -- the value of literal l, where the words hold the values of the terms
-unfoldable pub litOf : List ℕ → ℕ → ℕ
-litOf ws l = (bitAt ws (termOf l) + l % 2) % 2
+unfoldable pub valueIn : List ℕ → ℕ → ℕ
+valueIn ws l = (bitAt ws (termOf l) + l % 2) % 2
 
 -- the term of a true literal, else 0; `val` gives each literal's value
 unfoldable pub termIf : (ℕ → ℕ) → ℕ → ℕ
@@ -22,5 +22,5 @@ xorTrue val [] = 0
 xorTrue val (l ∷ ls) = bitXor (termIf val l) (xorTrue val ls)
 
 -- every literal of a clause has its value in the words
-unfoldable pub InWords : List ℕ → List ℕ → Type 0
-InWords ws ls = (k : ℕ) → k < length ls → getD ls k 0 / 64 < length ws
+unfoldable pub Readable : List ℕ → List ℕ → Type 0
+Readable ws ls = (k : ℕ) → k < length ls → getD ls k 0 / 64 < length ws

@@ -8,7 +8,7 @@ use lib.Dec.{eqb}
 use Rattle.written.specs.Agreement.{partOf}
 use Rattle.machine.specs.Uncovered.{marks, enters, CanEnter}
 use Rattle.machine.specs.Tallies.{Tallies, tallies, raised, CanRaise}
-use Rattle.machine.specs.Whole.{Text, Whole, whole, Fixed, fixed, CanRead, countAt, xorAt}
+use Rattle.machine.specs.Moving.{Fixed, Moving, moving, View, view, CanRead, countAt, xorAt}
 
 -- 0, 1 and on below n, one after the other
 unfoldable pub upTo : {S : Type 0} → (ℕ → S → S) → ℕ → S → S
@@ -26,36 +26,36 @@ zeroed n xs = rewritten (λ i p. 0) n xs
 -- ---- opening and closing
 
 -- what walking has at the place of clause c, where p stood, and what stands there in written tables; ts are the true counts
-unfoldable pub walkPlace : Fixed → List ℕ → ℕ → ℕ → ℕ
+unfoldable pub walkPlace : View → List ℕ → ℕ → ℕ → ℕ
 walkPlace f ts c p = cond (eqb (getD ts c 0) 0) p (xorAt f c)
 
 unfoldable pub restPlace : List ℕ → ℕ → ℕ → ℕ
 restPlace ts c p = cond (eqb (getD ts c 0) 0) p 0
 
 -- what the two passes over n clauses ask
-pub record CanRest (n : ℕ) (ts ps : List ℕ) : Type 0 where
+pub record CanClose (n : ℕ) (ts ps : List ℕ) : Type 0 where
   pub counts : n ≤ length ts
   pub places : n ≤ length ps
 
-pub record CanOpen (n : ℕ) (f : Fixed) (ts ps : List ℕ) : Type 0 where
-  pub rest : CanRest n ts ps
+pub record CanOpen (n : ℕ) (f : View) (ts ps : List ℕ) : Type 0 where
+  pub rest : CanClose n ts ps
   pub read : (c : ℕ) → c < n → CanRead f c
 
 -- the tables with other places
-abbrev pub withPlaces : List ℕ → Whole → Whole
-withPlaces ps w = whole (w .words) (tallies (w .tallies .trues) (w .tallies .breaks) (w .tallies .uncovered .list) ps (w .tallies .uncovered .number))
+abbrev pub withPlaces : List ℕ → Moving → Moving
+withPlaces ps w = moving (w .words) (tallies (w .tallies .trues) (w .tallies .breaks) (w .tallies .uncovered .list) ps (w .tallies .uncovered .number))
 
 -- written tables of n clauses made ready for walking, and made written again
-unfoldable pub opened : ℕ → Text → Whole → Whole
-opened n x w = withPlaces (rewritten (walkPlace (fixed (w .words) (x .starts) (x .literals)) (w .tallies .trues)) n (w .tallies .uncovered .places)) w
+unfoldable pub opened : ℕ → Fixed → Moving → Moving
+opened n x w = withPlaces (rewritten (walkPlace (view (w .words) (x .starts) (x .literals)) (w .tallies .trues)) n (w .tallies .uncovered .places)) w
 
-unfoldable pub closed : ℕ → Whole → Whole
+unfoldable pub closed : ℕ → Moving → Moving
 closed n w = withPlaces (rewritten (restPlace (w .tallies .trues)) n (w .tallies .uncovered .places)) w
 
 -- ---- counting afresh
 
 -- clause c counted
-unfoldable pub countOne : Fixed → ℕ → Tallies → Tallies
+unfoldable pub countOne : View → ℕ → Tallies → Tallies
 countOne f c t =
     record {
       trues = set (t .trues) c (countAt f c);
@@ -64,7 +64,7 @@ countOne f c t =
     }
 
 -- what it asks; top is 2 to the width of an entry
-pub record CanCount (top : ℕ) (f : Fixed) (c : ℕ) (t : Tallies) : Type 0 where
+pub record CanCount (top : ℕ) (f : View) (c : ℕ) (t : Tallies) : Type 0 where
   pub number : c < top
   pub read : CanRead f c
   pub short : length (partOf (f .starts) (f .literals) c) < top
@@ -77,9 +77,9 @@ unfoldable pub blank : ℕ → ℕ → Tallies → Tallies
 blank C T t = tallies (t .trues) (zeroed T (t .breaks)) (zeroed C (t .uncovered .list)) (t .uncovered .places) 0
 
 -- the tallies of the first n clauses, counted into those
-unfoldable pub counted : ℕ → Fixed → Tallies → Tallies
+unfoldable pub counted : ℕ → View → Tallies → Tallies
 counted n f t = upTo (countOne f) n t
 
 -- counts worked out afresh for C clauses and T terms
-unfoldable pub recounted : ℕ → ℕ → Text → Whole → Whole
-recounted C T x w = whole (w .words) (counted C (fixed (w .words) (x .starts) (x .literals)) (blank C T (w .tallies)))
+unfoldable pub recounted : ℕ → ℕ → Fixed → Moving → Moving
+recounted C T x w = moving (w .words) (counted C (view (w .words) (x .starts) (x .literals)) (blank C T (w .tallies)))

@@ -18,6 +18,7 @@ pub record Tallies : Type 0 where
 abbrev pub tallies : List ℕ → List ℕ → List ℕ → List ℕ → ℕ → Tallies
 tallies ts bs us ps n = record { trues = ts; breaks = bs; uncovered = record { list = us; places = ps; number = n } }
 
+-- entry k one more, and one less
 unfoldable pub raised : List ℕ → ℕ → List ℕ
 raised xs k = set xs k (getD xs k 0 + 1)
 

@@ -5,35 +5,35 @@ use lib.ListN.{length, getD}
 use Rattle.words.specs.Words.{bitAt, turnAt}
 use Rattle.written.specs.Lists.{total, steps}
 use Rattle.written.specs.Agreement.{partOf}
-use Rattle.machine.specs.Literals.{litOf, xorTrue, InWords}
+use Rattle.machine.specs.Literals.{valueIn, xorTrue, Readable}
 use Rattle.machine.specs.Tallies.{Tallies, gainOne, loseOne, CanGain, CanLose, CanSteps}
 
 -- the tables that a flip only reads
-pub record Text : Type 0 where
+pub record Fixed : Type 0 where
   pub starts : List ℕ
   pub literals : List ℕ
   pub occurrenceStarts : List ℕ
   pub occurrences : List ℕ
 
-abbrev pub text : List ℕ → List ℕ → List ℕ → List ℕ → Text
-text s l o c = record { starts = s; literals = l; occurrenceStarts = o; occurrences = c }
+abbrev pub fixed : List ℕ → List ℕ → List ℕ → List ℕ → Fixed
+fixed s l o c = record { starts = s; literals = l; occurrenceStarts = o; occurrences = c }
 
 -- the tables that a flip writes: the value words and the tallies
-pub record Whole : Type 0 where
+pub record Moving : Type 0 where
   pub words : List ℕ
   pub tallies : Tallies
 
-abbrev pub whole : List ℕ → Tallies → Whole
-whole ws t = record { words = ws; tallies = t }
+abbrev pub moving : List ℕ → Tallies → Moving
+moving ws t = record { words = ws; tallies = t }
 
 -- what is read of a clause: the value words, clause starts, literals
-pub record Fixed : Type 0 where
+pub record View : Type 0 where
   pub words : List ℕ
   pub starts : List ℕ
   pub literals : List ℕ
 
-abbrev pub fixed : List ℕ → List ℕ → List ℕ → Fixed
-fixed w s l = record { words = w; starts = s; literals = l }
+abbrev pub view : List ℕ → List ℕ → List ℕ → View
+view w s l = record { words = w; starts = s; literals = l }
 
 -- what it asks to read part k of the entries, by the starts
 pub record CanPart (starts xs : List ℕ) (k : ℕ) : Type 0 where
@@ -42,16 +42,16 @@ pub record CanPart (starts xs : List ℕ) (k : ℕ) : Type 0 where
   pub within : getD starts (k + 1) 0 ≤ length xs
 
 -- what it asks to read clause c with its literals' values
-pub record CanRead (f : Fixed) (c : ℕ) : Type 0 where
+pub record CanRead (f : View) (c : ℕ) : Type 0 where
   pub part : CanPart (f .starts) (f .literals) c
-  pub words : InWords (f .words) (partOf (f .starts) (f .literals) c)
+  pub words : Readable (f .words) (partOf (f .starts) (f .literals) c)
 
 -- how many literals of clause c are true, and their terms, xored
-unfoldable pub countAt : Fixed → ℕ → ℕ
-countAt f c = total (litOf (f .words)) (partOf (f .starts) (f .literals) c)
+unfoldable pub countAt : View → ℕ → ℕ
+countAt f c = total (valueIn (f .words)) (partOf (f .starts) (f .literals) c)
 
-unfoldable pub xorAt : Fixed → ℕ → ℕ
-xorAt f c = xorTrue (litOf (f .words)) (partOf (f .starts) (f .literals) c)
+unfoldable pub xorAt : View → ℕ → ℕ
+xorAt f c = xorTrue (valueIn (f .words)) (partOf (f .starts) (f .literals) c)
 
 -- the literal of term v that becomes true as v flips, and the one that becomes false
 unfoldable pub upOf : List ℕ → ℕ → ℕ
@@ -61,18 +61,18 @@ unfoldable pub downOf : List ℕ → ℕ → ℕ
 downOf ws v = 2 * v + 1 - bitAt ws v
 
 -- the tallies after the clauses of the one, and after those of the other
-unfoldable pub gained : Text → ℕ → List ℕ → Tallies → Tallies
+unfoldable pub gained : Fixed → ℕ → List ℕ → Tallies → Tallies
 gained x v ws t = steps (gainOne v) (partOf (x .occurrenceStarts) (x .occurrences) (upOf ws v)) t
 
-unfoldable pub lost : Text → ℕ → List ℕ → Tallies → Tallies
+unfoldable pub lost : Fixed → ℕ → List ℕ → Tallies → Tallies
 lost x v ws t = steps (loseOne v) (partOf (x .occurrenceStarts) (x .occurrences) (downOf ws v)) t
 
 -- the flip of term v
-unfoldable pub flipTerm : Text → ℕ → Whole → Whole
+unfoldable pub flipTerm : Fixed → ℕ → Moving → Moving
 flipTerm x v w = record { words = turnAt (w .words) v; tallies = lost x v (w .words) (gained x v (w .words) (w .tallies)) }
 
 -- what a flip asks; top is 2 to the width of an entry
-pub record CanFlip (top : ℕ) (x : Text) (v : ℕ) (w : Whole) : Type 0 where
+pub record CanFlip (top : ℕ) (x : Fixed) (v : ℕ) (w : Moving) : Type 0 where
   pub word : v / 32 < length (w .words)
   pub small : 2 * v + 1 < top
   pub up : CanPart (x .occurrenceStarts) (x .occurrences) (upOf (w .words) v)

@@ -12,10 +12,10 @@ use Rattle.laws.specs.Valid.{isClause}
 use Rattle.machine.specs.Literals.{xorTrue}
 use Rattle.machine.specs.Uncovered.{Uncovered}
 use Rattle.machine.specs.Tallies.{Tallies}
-use Rattle.machine.specs.Whole.{Text, Whole, CanPart}
+use Rattle.machine.specs.Moving.{Fixed, Moving, CanPart}
 
 -- the tables that are only read hold the clauses cs, over T terms; top is 2 to the width of an entry
-pub record Holds (top T : ℕ) (cs : List (List ℕ)) (x : Text) : Type 0 where
+pub record HoldsClauses (top T : ℕ) (cs : List (List ℕ)) (x : Fixed) : Type 0 where
   pub few-clauses : length cs + 1 < top
   pub few-terms : 2 * T < top
   pub valid : all (isClause T) cs ≡ true
@@ -26,7 +26,7 @@ pub record Holds (top T : ℕ) (cs : List (List ℕ)) (x : Text) : Type 0 where
   pub occurs : (l : ℕ) → l < 2 * T → partOf (x .occurrenceStarts) (x .occurrences) l ≡ occurrencesOf cs l
 
 -- the words hold the values vs
-pub record InValues (vs ws : List ℕ) : Type 0 where
+pub record HoldsValues (vs ws : List ℕ) : Type 0 where
   pub room : length vs ≤ 32 * length ws
   pub values : (t : ℕ) → t < length vs → bitAt ws t ≡ getD vs t 0
 
@@ -44,9 +44,9 @@ pub record Placed (C : ℕ) (κ ρ : ℕ → ℕ) (u : Uncovered) : Type 0 where
   pub rest : (j : ℕ) → u .number ≤ j → j < C → getD (u .list) j 0 ≡ 0
 
 -- the tables x and w hold the state s; ρ gives the places of covered clauses
-pub record AgreeAt (ρ : ℕ → ℕ) (top : ℕ) (s : State) (x : Text) (w : Whole) : Type 0 where
-  pub holds : Holds top (length (s .values)) (s .file .clauses) x
-  pub words : InValues (s .values) (w .words)
+pub record HoldsAt (ρ : ℕ → ℕ) (top : ℕ) (s : State) (x : Fixed) (w : Moving) : Type 0 where
+  pub holds : HoldsClauses top (length (s .values)) (s .file .clauses) x
+  pub words : HoldsValues (s .values) (w .words)
   pub trues-room : length (s .file .clauses) ≤ length (w .tallies .trues)
   pub trues : (c : ℕ) → c < length (s .file .clauses) → getD (w .tallies .trues) c 0 ≡ trueCount (s .values) (getD (s .file .clauses) c [])
   pub breaks-room : length (s .values) ≤ length (w .tallies .breaks)
@@ -56,17 +56,17 @@ pub record AgreeAt (ρ : ℕ → ℕ) (top : ℕ) (s : State) (x : Text) (w : Wh
   pub list : take (w .tallies .uncovered .number) (w .tallies .uncovered .list) ≡ s .uncovered
 
 -- written tables: the place of a covered clause is 0
-abbrev pub Resting : ℕ → State → Text → Whole → Type 0
-Resting top s x w = AgreeAt (λ c. 0) top s x w
+abbrev pub Resting : ℕ → State → Fixed → Moving → Type 0
+Resting top s x w = HoldsAt (λ c. 0) top s x w
 
 -- walking tables: it is the xor of the terms of its true literals
-abbrev pub Walking : ℕ → State → Text → Whole → Type 0
-Walking top s x w = AgreeAt (λ c. xorTrue (valueOf (s .values)) (getD (s .file .clauses) c [])) top s x w
+abbrev pub Walking : ℕ → State → Fixed → Moving → Type 0
+Walking top s x w = HoldsAt (λ c. xorTrue (valueOf (s .values)) (getD (s .file .clauses) c [])) top s x w
 
 -- tables in which the counts of a file at the values vs can be worked out
-pub record Ready (top : ℕ) (f : File) (vs : List ℕ) (x : Text) (w : Whole) : Type 0 where
-  pub holds : Holds top (length vs) (f .clauses) x
-  pub words : InValues vs (w .words)
+pub record Ready (top : ℕ) (f : File) (vs : List ℕ) (x : Fixed) (w : Moving) : Type 0 where
+  pub holds : HoldsClauses top (length vs) (f .clauses) x
+  pub words : HoldsValues vs (w .words)
   pub trues-room : length (f .clauses) ≤ length (w .tallies .trues)
   pub breaks-room : length vs ≤ length (w .tallies .breaks)
   pub list-room : length (f .clauses) ≤ length (w .tallies .uncovered .list)
