@@ -63,8 +63,8 @@ EDITS = {
     ],
     "Sheet": [
         ('leb (length ds) 10', 'leb (length ds) 11'),
-        ('(eqb (length ds) 1 || not (eqb (getD ds 0 0) 48))', 'true'),
-        ('ltb (lineLength input) (length input) &&', 'true &&'),
+        ('not (eqb (getD ds 0 0) 48)', 'not (eqb (getD ds 0 0) 47)'),
+        ('ltb (lineLength input) (length input) && ', ''),
     ],
     "Orders": [
         ('least = 1; most = 4294967295', 'least = 0; most = 4294967295'),

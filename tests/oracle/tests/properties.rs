@@ -212,49 +212,40 @@ fn assert_same_but_for_order(one: (Counts, Tables), other: (Counts, Tables)) {
     assert!(without_list_order(&one.0, &one.1) == without_list_order(&other.0, &other.1));
 }
 
+fn for_each_flip(check: impl Fn(&Limits, &mut Random, Flipped)) {
+    for_each_case(|limits, random| {
+        let case = flipped(limits, random);
+        check(limits, random, case);
+    });
+}
+
 #[test]
 fn two_orders_of_one_list_leave_the_same_but_for_the_lists_order() {
-    for_each_case(|limits, random| {
-        let Flipped {
-            mut list,
-            before,
-            after,
-        } = flipped(limits, random);
-        random.shuffle(&mut list);
-        let (counts, mut tables) = before;
-        let answer = flip(limits, &list, counts, &mut tables);
-        assert_same_but_for_order((answer.counts, tables), after);
+    for_each_flip(|limits, random, mut case| {
+        random.shuffle(&mut case.list);
+        let (counts, mut tables) = case.before;
+        let answer = flip(limits, &case.list, counts, &mut tables);
+        assert_same_but_for_order((answer.counts, tables), case.after);
     });
 }
 
 #[test]
 fn a_list_given_twice_restores_the_values() {
-    for_each_case(|limits, random| {
-        let Flipped {
-            list,
-            before,
-            after,
-        } = flipped(limits, random);
-        let (counts, mut tables) = after;
-        let answer = flip(limits, &list, counts, &mut tables);
-        assert_same_but_for_order((answer.counts, tables), before);
+    for_each_flip(|limits, _, case| {
+        let (counts, mut tables) = case.after;
+        let answer = flip(limits, &case.list, counts, &mut tables);
+        assert_same_but_for_order((answer.counts, tables), case.before);
     });
 }
 
 #[test]
 fn a_list_may_be_cut_anywhere_and_its_parts_given_in_order() {
-    for_each_case(|limits, random| {
-        let Flipped {
-            list,
-            before,
-            after,
-        } = flipped(limits, random);
-        let (first, second) = list.split_at(random.between(0, list.len()));
-        let (counts, mut tables) = before;
+    for_each_flip(|limits, random, case| {
+        let (first, second) = case.list.split_at(random.between(0, case.list.len()));
+        let (counts, mut tables) = case.before;
         let middle = flip(limits, first, counts, &mut tables);
         let end = flip(limits, second, middle.counts, &mut tables);
-        assert_eq!(end.counts, after.0);
-        assert!(tables == after.1);
+        assert!((end.counts, tables) == case.after);
     });
 }
 

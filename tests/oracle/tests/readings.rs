@@ -37,6 +37,31 @@ fn literal(text: &str) -> Told {
 }
 
 #[test]
+fn any_number_of_spaces_separates_literals() {
+    let (counts, tables) = accepted("  a   b  \n");
+    assert_eq!((counts.terms, counts.clauses, counts.literals), (2, 1, 2));
+    assert_eq!(tables.literals[..2], [0, 2]);
+}
+
+#[test]
+fn a_line_may_be_as_long_as_the_text() {
+    let one_line = "a".to_owned() + &" ".repeat(NARROW.text - 2) + "\n";
+    assert_eq!(one_line.len(), NARROW.text);
+    assert_eq!(accepted(one_line).0.literals, 1);
+    let repeats = "a ".repeat(NARROW.text / 2 - 1) + "a\n";
+    assert_eq!(accepted(repeats).0.literals, 1);
+}
+
+#[test]
+fn clauses_stay_in_file_order_and_literals_in_reading_order() {
+    let (counts, tables) = accepted("b a\n~ note\n~a c\n");
+    assert_eq!((counts.terms, counts.clauses, counts.literals), (3, 2, 4));
+    assert_eq!(tables.names[..3], [98, 97, 99]);
+    assert_eq!(tables.starts[..3], [0, 2, 4]);
+    assert_eq!(tables.literals[..4], [0, 2, 3, 4]);
+}
+
+#[test]
 fn point_01_a_cut_text_is_3_before_its_bytes_are_judged() {
     for text in ["a\tb", "abcdefghi"] {
         assert_refused(text, 3, 0);
