@@ -33,3 +33,11 @@ pub mod Held
 pub mod Settled
 pub mod Tallied
 pub mod Outcome
+-- judging
+pub mod Tests
+pub mod Passing
+pub mod Cuts
+pub mod Rest
+pub mod Judged
+-- a flip list on tables that agree
+pub mod Applied

@@ -16,7 +16,7 @@ use Rattle.laws.proofs.Literals.{value-le}
 use Rattle.machine.specs.Literals.{xorTrue}
 use Rattle.machine.specs.Tallies.{Tallies, SameSizes}
 use Rattle.machine.specs.Moving.{Fixed, Moving, moving, View, view, countAt, xorAt}
-use Rattle.machine.specs.Passes.{upTo, zeroed, CanCount, blank, counted, recounted}
+use Rattle.machine.specs.Passes.{upTo, zeroed, CanCount, blank, counted, CanRecount, recounted}
 use Rattle.machine.specs.Holds.{HoldsValues, HoldsAt, Ready, Walking, Kept}
 use Rattle.machine.proofs.Clause.{one-low}
 use Rattle.machine.proofs.Status.{Standing, status}
@@ -139,6 +139,9 @@ module _ (top : ℕ) (f : File) (vs : List ℕ) (x : Fixed) (w : Moving) (g : Re
   -- each clause can be counted
   pub count-can : (c : ℕ) → c < length cs → CanCount top read c (at c)
   count-can c l = can c l (passed c (omega arith))
+
+  pub recount-can : CanRecount top (length cs) T read (w .tallies)
+  recount-can = record { breaks-room = g .breaks-room; list-room = g .list-room; clauses = record { each = count-can } }
 
   whole-mid : Mid none T (map A cs) (uncoveredIn vs cs) (at (length cs))
   whole-mid = rw (take-length cs) at (passed (length cs) (omega arith))

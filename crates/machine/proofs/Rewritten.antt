@@ -65,6 +65,7 @@ module _ (f : View) (ts ps : List ℕ) (c : ℕ) where
   unfolding walkPlace
   walk-mark nz e = rw (ne-eqb _ 0 nz, e)
 
+module _ (ts ps : List ℕ) (c : ℕ) where
   pub rest-bare : getD ts c 0 ≡ 0 → ps ≡ set ps c (restPlace ts c (getD ps c 0))
   unfolding restPlace
   rest-bare z = rw (eq-eqb _ 0 z) (sym (set-getD ps c 0))

@@ -1,5 +1,5 @@
 -- A clause scanned literal by literal: its true literals counted, and their terms xored. Assumes nothing.
-use mathlib.Core.Path.{_≡_, ap, _∙_, sym}
+use mathlib.Core.Path.{_≡_, refl, ap, _∙_, sym}
 use mathlib.Core.List.{List}
 use Prim.Native.Nat.{ℕ, suc, _+_, _<_, _≤_}
 use native.Mathlib.Numerals.{add-one}
@@ -9,6 +9,7 @@ use lib.Seq.{drop-cons}
 use lib.Bits.{bitXor, xor-zero-r}
 use Rattle.written.specs.Lists.{total}
 use Rattle.written.specs.Agreement.{partOf}
+use Rattle.laws.proofs.Sums.{total-most}
 use Rattle.machine.specs.Literals.{valueIn, termIf, xorTrue}
 use Rattle.machine.specs.Moving.{View, countAt, xorAt}
 use Rattle.machine.proofs.Xor.{xor-assoc}
@@ -44,3 +45,6 @@ module _ (f : View) (c : ℕ) {ls : List ℕ} (e : ls ≡ partOf (f .starts) (f 
   pub is-xor : {w : ℕ} → w ≡ xorTrue (valueIn (f .words)) ls → w ≡ xorAt f c
   unfolding xorAt
   is-xor q = q ∙ ap (xorTrue (valueIn (f .words))) e
+
+  pub count-fits : {k top : ℕ} → k ≡ total (valueIn (f .words)) ls → length (partOf (f .starts) (f .literals) c) < top → k < top
+  count-fits q h = omega (arith, q, h, ap length e, total-most (valueIn (f .words)) (λ l. value-low (f .words) l refl) ls)

@@ -6,3 +6,5 @@ pub mod Moving
 pub mod Passes
 pub mod Holds
 pub mod Lent
+pub mod Judging
+pub mod Cuts

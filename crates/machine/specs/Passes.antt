@@ -80,6 +80,16 @@ blank C T t = tallies (t .trues) (zeroed T (t .breaks)) (zeroed C (t .uncovered 
 unfoldable pub counted : ℕ → View → Tallies → Tallies
 counted n f t = upTo (countOne f) n t
 
+-- what that asks: each clause can be counted as it comes
+pub record CanCountAll (top n : ℕ) (f : View) (t : Tallies) : Type 0 where
+  pub each : (c : ℕ) → c < n → CanCount top f c (counted c f t)
+
 -- counts worked out afresh for C clauses and T terms
 unfoldable pub recounted : ℕ → ℕ → Fixed → Moving → Moving
 recounted C T x w = moving (w .words) (counted C (view (w .words) (x .starts) (x .literals)) (blank C T (w .tallies)))
+
+-- what that asks: room for what is zeroed, and that the clauses can then be counted
+pub record CanRecount (top C T : ℕ) (f : View) (t : Tallies) : Type 0 where
+  pub breaks-room : T ≤ length (t .breaks)
+  pub list-room : C ≤ length (t .uncovered .list)
+  pub clauses : CanCountAll top C f (blank C T t)
