@@ -16,7 +16,10 @@ use Rattle.written.specs.Clauses.{uncoveredIn}
 use Rattle.written.specs.Tables.{Tables, Lent, each, every, sizes, fullSizes, areFull, wordsOf, turnedRound, inUse}
 use Rattle.written.specs.Agreement.{fileIn, stateIn, countsFit, namesAgree, startsAgree, literalsAgree, occurrencesAgree, countsAgree, listAgrees, restIsZero, holdsTogether, agree}
 use Rattle.laws.proofs.Basics.{by-cases, both-first, both-second}
+use Rattle.laws.proofs.Each.{Names, Values, Starts, Literals, OccurrenceStarts, Occurrences, Trues, Breaks, Uncovered, Places}
 use Rattle.machine.specs.Judging.{clausesIn, valuesIn, startsRight, clauseRight, literalsRight, turnedRight, truesRight, breaksRight, listRight, coveredRight, restRight, spareRight, fileRight, countsRight, clauseRests, countRests, judged}
+use Rattle.machine.specs.Tested.{CanCounts}
+use Rattle.machine.proofs.File.{rooms, counts-fit, can-counts}
 use Rattle.machine.proofs.Rest.{spare-is}
 
 -- the last test first
@@ -45,18 +48,6 @@ unfolding wordCount
 words-mono a b l = omega arith
 
 module _ (lim : Limits) (n : Counts) (t : Tables) (full : areFull lim t ≡ true) (words : (k : ℕ) → getD (t .values) k 0 < 2 ^ 32) where
-  names-room : lim .terms ≤ length (t .names)
-  unfolding areFull every each fullSizes sizes
-  names-room = leb-true _ _ (search (both-first, both-second) depth 12)
-
-  values-room : wordCount (lim .terms) ≤ length (t .values)
-  unfolding areFull every each fullSizes sizes
-  values-room = leb-true _ _ (search (both-first, both-second) depth 12)
-
-  few-terms : countsFit lim n ≡ true → n .terms ≤ lim .terms
-  unfolding countsFit
-  few-terms h = leb-true _ _ (search (both-first, both-second) depth 8)
-
   abbrev T : ℕ
   T = n .terms
 
@@ -72,11 +63,14 @@ module _ (lim : Limits) (n : Counts) (t : Tables) (full : areFull lim t ≡ true
   abbrev ps : List ℕ
   ps = take (n .clauses) (t .places)
 
+  few : countsFit lim n ≡ true → T ≤ lim .terms
+  few h = counts-fit lim n h .terms
+
   fitting : countsFit lim n ≡ true → judged lim n t ≡ agree lim n t
   unfolding judged agree holdsTogether fileRight turnedRight countsRight truesRight breaksRight listRight coveredRight clauseRests countRests restRight namesAgree startsAgree literalsAgree occurrencesAgree countsAgree listAgrees restIsZero startsRight literalsRight clauseRight clausesIn valuesIn every each sizes fullSizes stateIn fileIn inUse turnedRound
   fitting h =
-      let size : length (take T (t .names)) ≡ T = length-take-le T (t .names) (omega (arith, names-room, few-terms h)) in
-      let room : wordCount T ≤ length (t .values) = omega (arith, values-room, few-terms h, words-mono T (lim .terms) (few-terms h)) in
+      let size : length (take T (t .names)) ≡ T = length-take-le T (t .names) (omega (arith, rooms lim t full Names, few h)) in
+      let room : wordCount T ≤ length (t .values) = omega (arith, rooms lim t full Values, words-mono T (lim .terms) (few h)) in
       rw (h, size)
       (regroup (fileRight n (t .names) (t .starts) (t .literals)) (turnedRight T (n .literals) cs (t .occurrenceStarts) (t .occurrences))
       (truesRight (n .clauses) vs cs (t .trues)) (breaksRight T vs cs (t .breaks)) (eqb (n .uncovered) (length (uncoveredIn vs cs)))
@@ -94,3 +88,37 @@ module _ (lim : Limits) (n : Counts) (t : Tables) (full : areFull lim t ≡ true
 
   pub judged-is : judged lim n t ≡ agree lim n t
   judged-is = by-cases (countsFit lim n) fitting (λ e. unfold judged agree in rw e refl)
+
+  -- the ways out of the tests, one after another
+  abbrev held : Bool
+  held = fileRight n (t .names) (t .starts) (t .literals) && turnedRight T (n .literals) cs (t .occurrenceStarts) (t .occurrences)
+
+  abbrev counted : Bool
+  counted = countsRight n (t .values) (t .starts) (t .literals) (t .trues) (t .breaks) (t .uncovered) (t .places)
+
+  abbrev rests : Bool
+  rests =
+      clauseRests lim n (t .names) (t .values) (t .starts) (t .literals) (t .occurrenceStarts) (t .occurrences)
+      && countRests lim n (t .trues) (t .breaks) (t .uncovered) (t .places) && spareRight T (take (wordCount T) (t .values))
+
+  module _ (fit : countsFit lim n ≡ true) where
+    pub not-held : held ≡ false → false ≡ agree lim n t
+    unfolding judged
+    not-held e = rw (fit, e) refl ∙ judged-is
+
+    -- the counts can then be tested
+    pub counts-can : held ≡ true → CanCounts n (t .values) (t .starts) (t .literals) (t .occurrenceStarts) (t .occurrences) (t .trues) (t .breaks) (t .uncovered) (t .places)
+    counts-can h =
+        let r = rooms lim t full in
+        let file = fileRight n (t .names) (t .starts) (t .literals) in
+        let turns = turnedRight T (n .literals) cs (t .occurrenceStarts) (t .occurrences) in
+        can-counts lim n fit (t .names) (t .starts) (t .literals) (r Starts) (r Literals) (both-first file turns h) (t .occurrenceStarts) (t .occurrences)
+        (r OccurrenceStarts) (r Occurrences) (both-second file turns h) (t .values) (t .trues) (t .breaks) (t .uncovered) (t .places) (r Values) (r Trues) (r Breaks) (r Uncovered) (r Places)
+
+    pub not-counted : held ≡ true → counted ≡ false → false ≡ agree lim n t
+    unfolding judged
+    not-counted a e = rw (fit, a, e) refl ∙ judged-is
+
+    pub rest-decides : held ≡ true → counted ≡ true → rests ≡ agree lim n t
+    unfolding judged
+    rest-decides a b = rw (fit, a, b) refl ∙ judged-is

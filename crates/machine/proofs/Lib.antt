@@ -37,6 +37,17 @@ pub mod Outcome
 pub mod Tests
 pub mod Passing
 pub mod Cuts
+pub mod Marks
+pub mod Names
+pub mod Occurrences
+pub mod Matching
+pub mod Left
+pub mod Matched
+pub mod Tested
+pub mod Ones
+pub mod ListTested
+pub mod CountsTested
+pub mod File
 pub mod Rest
 pub mod Judged
 -- a flip list on tables that agree

@@ -66,8 +66,10 @@ fileRight n names ss ls =
     && startsRight (n .clauses) (n .literals) ss && literalsRight (n .terms) (clausesIn (n .clauses) ss ls)
 
 -- the counts, the list and its places
-unfoldable pub countsRight : Counts → List ℕ → List (List ℕ) → List ℕ → List ℕ → List ℕ → List ℕ → Bool
-countsRight n vs cs ts bs us ps =
+unfoldable pub countsRight : Counts → List ℕ → List ℕ → List ℕ → List ℕ → List ℕ → List ℕ → List ℕ → Bool
+countsRight n ws ss ls ts bs us ps =
+    let vs : List ℕ = valuesIn (n .terms) ws in
+    let cs : List (List ℕ) = clausesIn (n .clauses) ss ls in
     truesRight (n .clauses) vs cs ts && breaksRight (n .terms) vs cs bs && eqb (n .uncovered) (length (uncoveredIn vs cs))
     && listRight vs cs (take (n .uncovered) us) (take (n .clauses) ps) && coveredRight (n .clauses) (take (n .uncovered) us) (take (n .clauses) ps)
 
@@ -92,7 +94,7 @@ judged lim n t =
     countsFit lim n
     && fileRight n (t .names) (t .starts) (t .literals)
     && turnedRight (n .terms) (n .literals) (clausesIn (n .clauses) (t .starts) (t .literals)) (t .occurrenceStarts) (t .occurrences)
-    && countsRight n (valuesIn (n .terms) (t .values)) (clausesIn (n .clauses) (t .starts) (t .literals)) (t .trues) (t .breaks) (t .uncovered) (t .places)
+    && countsRight n (t .values) (t .starts) (t .literals) (t .trues) (t .breaks) (t .uncovered) (t .places)
     && clauseRests lim n (t .names) (t .values) (t .starts) (t .literals) (t .occurrenceStarts) (t .occurrences)
     && countRests lim n (t .trues) (t .breaks) (t .uncovered) (t .places)
     && spareRight (n .terms) (take (wordCount (n .terms)) (t .values))

@@ -8,3 +8,6 @@ pub mod Holds
 pub mod Lent
 pub mod Judging
 pub mod Cuts
+pub mod Marks
+pub mod Tested
+pub mod Matching

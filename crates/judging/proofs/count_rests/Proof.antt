@@ -21,8 +21,11 @@ unfolding countRests
 returns-3 c =
     let b = c .before .before .before in
     let a = b .before .before .before in
-    rw (said-yes (a .if1 .left) (a .before .rest-zero .ensures), said-yes (b .if2 .left) (b .before .rest-zero2 .ensures),
-    said-no (c .if3 .taken) (c .before .rest-zero3 .ensures)) refl
+    rw (
+      said-yes (a .if1 .left) (a .before .rest-zero .ensures),
+      said-yes (b .if2 .left) (b .before .rest-zero2 .ensures),
+      said-no (c .if3 .taken) (c .before .rest-zero3 .ensures),
+    ) refl
 
 returns-4 : tie.Need-returns-4
 unfolding countRests
@@ -30,8 +33,11 @@ returns-4 c =
     let d = c .before in
     let b = d .before .before .before in
     let a = b .before .before .before in
-    rw (said-yes (a .if1 .left) (a .before .rest-zero .ensures), said-yes (b .if2 .left) (b .before .rest-zero2 .ensures),
-    said-yes (d .if3 .left) (d .before .rest-zero3 .ensures)) (c .rest-zero4 .ensures)
+    rw (
+      said-yes (a .if1 .left) (a .before .rest-zero .ensures),
+      said-yes (b .if2 .left) (b .before .rest-zero2 .ensures),
+      said-yes (d .if3 .left) (d .before .rest-zero3 .ensures),
+    ) (c .rest-zero4 .ensures)
 
 pub count-rests-spec : {M : Type 1} → statement M
 count-rests-spec =

@@ -1,0 +1,2 @@
+-- What crosses the boundary.
+pub mod Answers

@@ -1,0 +1,1 @@
+-- The function's proof is found by the checker.
