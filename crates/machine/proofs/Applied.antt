@@ -14,9 +14,8 @@ use Rattle.written.specs.Flips.{flipped}
 use Rattle.laws.specs.Valid.{Valid}
 use Rattle.laws.proofs.Flips.{flipped-file}
 use Rattle.laws.proofs.Agreeing.{agree-valid, agree-counts, agree-holding}
-use Rattle.machine.specs.Tallies.{CanSteps}
-use Rattle.machine.specs.Moving.{Moving, view, flipTerm, CanFlip}
-use Rattle.machine.specs.Passes.{opened, closed, CanOpen, CanClose}
+use Rattle.machine.specs.Moving.{Moving, view, flipTerm}
+use Rattle.machine.specs.Passes.{opened, closed, CanOpen, CanClose, applied, CanApply}
 use Rattle.machine.specs.Holds.{Resting, Walking}
 use Rattle.machine.specs.Lent.{fixedIn, movingIn}
 use Rattle.machine.proofs.FlipLists.{termsOf, flips-can, flips-walking}
@@ -55,41 +54,41 @@ module _ (lim : Limits) (top : ℕ) (fc : lim .clauses + 1 < top) (ft : 2 * lim 
       subst₂ (λ (u : Tables) (k : ℕ). Resting top s (fixedIn u) (movingIn k u)) held number-is
       (laid-resting lim top fc ft fl s (holding lim s t) valid (holding-laid lim s (valid .proper .few-clauses) t))
 
-  -- the tables as they are walked on
-  abbrev pub ready : Moving
-  ready = opened C (fixedIn t) (movingIn (n .uncovered) t)
-
-  pub agree-opens : CanOpen C (view (t .values) (t .starts) (t .literals)) (t .trues) (t .places)
-  agree-opens =
-      subst (λ (c : ℕ). CanOpen c (view (t .values) (t .starts) (t .literals)) (t .trues) (t .places)) clauses-are
-      (open-can top s (fixedIn t) (movingIn (n .uncovered) t) (λ c. 0) resting)
-
   module _ (ts : List ℕ) (b : termsOf (n .terms) ts ≡ true) where
-    known : termsOf (length (s .values)) ts ≡ true
-    known = subst (λ (k : ℕ). termsOf k ts ≡ true) (sym values-are) b
-
     abbrev r : State
     r = flipped ts s
 
-    abbrev pub walked : Moving
+    -- the tables as they are walked on, at first and at the end
+    abbrev ready : Moving
+    ready = opened C (fixedIn t) (movingIn (n .uncovered) t)
+
+    abbrev walked : Moving
     walked = steps (flipTerm (fixedIn t)) ts ready
+
+    known : termsOf (length (s .values)) ts ≡ true
+    known = subst (λ (k : ℕ). termsOf k ts ≡ true) (sym values-are) b
 
     walking : Walking top s (fixedIn t) ready
     walking =
         subst (λ (c : ℕ). Walking top s (fixedIn t) (opened c (fixedIn t) (movingIn (n .uncovered) t))) clauses-are
         (opened-walking top s (fixedIn t) (movingIn (n .uncovered) t) (λ c. 0) resting)
 
-    pub agree-flips : CanSteps (CanFlip top (fixedIn t)) (flipTerm (fixedIn t)) ts ready
-    agree-flips = flips-can top ts s (fixedIn t) ready walking known
-
-    pub agree-closes : CanClose C (walked .tallies .trues) (walked .tallies .uncovered .places)
-    agree-closes =
-        subst (λ (c : ℕ). CanClose c (walked .tallies .trues) (walked .tallies .uncovered .places))
-        (ap (λ f. length (f .clauses)) (flipped-file ts s) ∙ clauses-are)
-        (close-can top r (fixedIn t) walked _ (flips-walking top ts s (fixedIn t) ready walking known))
+    pub agree-applies : CanApply top C (fixedIn t) ts (movingIn (n .uncovered) t)
+    agree-applies =
+        record {
+          opens =
+              subst (λ (c : ℕ). CanOpen c (view (t .values) (t .starts) (t .literals)) (t .trues) (t .places)) clauses-are
+              (open-can top s (fixedIn t) (movingIn (n .uncovered) t) (λ c. 0) resting);
+          flips = flips-can top ts s (fixedIn t) ready walking known;
+          closes =
+              subst (λ (c : ℕ). CanClose c (walked .tallies .trues) (walked .tallies .uncovered .places))
+              (ap (λ f. length (f .clauses)) (flipped-file ts s) ∙ clauses-are)
+              (close-can top r (fixedIn t) walked _ (flips-walking top ts s (fixedIn t) ready walking known));
+        }
 
     -- what is written to
-    pub agree-outcome : closed C walked ≡ movingIn (length (r .uncovered)) (holding lim r t)
+    pub agree-outcome : applied C (fixedIn t) ts (movingIn (n .uncovered) t) ≡ movingIn (length (r .uncovered)) (holding lim r t)
+    unfolding applied
     agree-outcome =
         subst (λ (u : Tables). closed C (steps (flipTerm (fixedIn u)) ts (opened C (fixedIn u) (movingIn (n .uncovered) u))) ≡ movingIn (length (r .uncovered)) (holding lim r t)) held
         (subst₂

@@ -11,7 +11,7 @@ use lib.Dec.{eqb}
 use lib.Bits.{bitXor}
 use borrow.Author.Tests.{eq-eqb, ne-eqb}
 use Rattle.machine.specs.Uncovered.{Uncovered, leaves, marks, enters}
-use Rattle.machine.specs.Tallies.{Tallies, raised, lowered, gainOne, gainBreaks, loseOne, loseBreaks, pickOf, hitOf}
+use Rattle.machine.specs.Tallies.{Tallies, raised, lowered, gainOne, gainBreaks, loseOne, loseBreaks, pickOf, hitOf, CanGain, CanLose}
 use Rattle.machine.specs.Moving.{View, countAt, xorAt}
 use Rattle.machine.specs.Passes.{countOne}
 use Rattle.laws.proofs.Basics.{by-eq}
@@ -70,22 +70,22 @@ module _ (bs : List ℕ) (k m w v : ℕ) where
   unfolding hitOf
   hit-off e = rw (ne-eqb k m e)
 
-  pub pick-in : v < length bs → (k ≡ m → w < length bs) → {i : ℕ} → i ≡ pickOf k m w v → i < length bs
+  pick-in : v < length bs → (k ≡ m → w < length bs) → {i : ℕ} → i ≡ pickOf k m w v → i < length bs
   pick-in l h e = rw e (by-eq k m (λ q. rw (pick-on q) (h q)) (λ q. rw (pick-off q) l))
 
-  pub lower-fits : (k ≡ m → 0 < getD bs w 0) → {i d : ℕ} → i ≡ pickOf k m w v → d ≡ hitOf k m → d ≤ getD bs i 0
+  lower-fits : (k ≡ m → 0 < getD bs w 0) → {i d : ℕ} → i ≡ pickOf k m w v → d ≡ hitOf k m → d ≤ getD bs i 0
   lower-fits h e f = rw (e, f) (by-eq k m (λ q. rw (pick-on q, hit-on q) (h q)) (λ q. rw (hit-off q) (omega arith)))
 
-  pub raise-fits : (top : ℕ) → (k ≡ m → getD bs w 0 + 1 < top) → {i d : ℕ} → getD bs i 0 < top → i ≡ pickOf k m w v → d ≡ hitOf k m → getD bs i 0 + d < top
+  raise-fits : (top : ℕ) → (k ≡ m → getD bs w 0 + 1 < top) → {i d : ℕ} → getD bs i 0 < top → i ≡ pickOf k m w v → d ≡ hitOf k m → getD bs i 0 + d < top
   raise-fits top h {i} l e f = by-eq k m (λ q. rw (e, f, pick-on q, hit-on q) (h q)) (λ q. rw (f, hit-off q) (omega arith))
 
-  pub lower-is : {i d : ℕ} → i ≡ pickOf k m w v → d ≡ hitOf k m → set bs i (getD bs i 0 - d) ≡ cond (eqb k m) (lowered bs w) bs
+  lower-is : {i d : ℕ} → i ≡ pickOf k m w v → d ≡ hitOf k m → set bs i (getD bs i 0 - d) ≡ cond (eqb k m) (lowered bs w) bs
   unfolding lowered
   lower-is e f =
       rw (e, f)
       (by-eq k m (λ q. rw (pick-on q, hit-on q, eq-eqb k m q)) (λ q. rw (pick-off q, hit-off q, ne-eqb k m q, sub-zero (getD bs v 0)) (set-getD bs v 0)))
 
-  pub raise-is : {i d : ℕ} → i ≡ pickOf k m w v → d ≡ hitOf k m → set bs i (getD bs i 0 + d) ≡ cond (eqb k m) (raised bs w) bs
+  raise-is : {i d : ℕ} → i ≡ pickOf k m w v → d ≡ hitOf k m → set bs i (getD bs i 0 + d) ≡ cond (eqb k m) (raised bs w) bs
   unfolding raised
   raise-is e f =
       rw (e, f)
@@ -103,6 +103,22 @@ module _ (v c : ℕ) (t : Tallies) {ts bs : List ℕ} {u : Uncovered} {i d : ℕ
       → u ≡ marks c (bitXor (getD (t .uncovered .places) c 0) v) (t .uncovered) → record { trues = ts; breaks = bs; uncovered = u } ≡ loseOne v c t
   unfolding loseOne loseBreaks
   lose-light k e₁ e₂ ei ed e₃ = rw (ne-eqb _ _ k) (made e₁ (e₂ ∙ raise-is (t .breaks) (getD (t .trues) c 0) 2 (bitXor (getD (t .uncovered .places) c 0) v) v ei ed) e₃)
+
+-- what the entry that is lowered or raised in place of a branch asks
+module _ (top v c : ℕ) (t : Tallies) {i d : ℕ} where
+  pub can-lower-by : CanGain top v c t → i ≡ pickOf (getD (t .trues) c 0) 1 (getD (t .uncovered .places) c 0) v → d ≡ hitOf (getD (t .trues) c 0) 1
+      → (i < length (t .breaks)) × (d ≤ getD (t .breaks) i 0)
+  can-lower-by h e f = (
+    pick-in (t .breaks) (getD (t .trues) c 0) 1 (getD (t .uncovered .places) c 0) v (h .term) (λ q. h .second q .within) e,
+    lower-fits (t .breaks) (getD (t .trues) c 0) 1 (getD (t .uncovered .places) c 0) v (λ q. h .second q .some) e f,
+  )
+
+  pub can-raise-by : CanLose top v c t → getD (t .breaks) i 0 < top → i ≡ pickOf (getD (t .trues) c 0) 2 (bitXor (getD (t .uncovered .places) c 0) v) v
+      → d ≡ hitOf (getD (t .trues) c 0) 2 → (i < length (t .breaks)) × (getD (t .breaks) i 0 + d < top)
+  can-raise-by h l e f = (
+    pick-in (t .breaks) (getD (t .trues) c 0) 2 (bitXor (getD (t .uncovered .places) c 0) v) v (h .term) (λ q. h .second q .within) e,
+    raise-fits (t .breaks) (getD (t .trues) c 0) 2 (bitXor (getD (t .uncovered .places) c 0) v) v top (λ q. h .second q .fits) l e f,
+  )
 
 -- `countOne` by its cases
 module _ (f : View) (c : ℕ) (t : Tallies) {ts bs : List ℕ} {u : Uncovered} {k : ℕ} (ek : k ≡ countAt f c) where

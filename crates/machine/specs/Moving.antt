@@ -1,6 +1,6 @@
 -- The tables that a flip reads and those that it writes, and the flip of a term on them. Assumes nothing.
 use Prim.Native.Nat.{ℕ, _+_, _-_, _*_, _/_, _≤_, _<_}
-use mathlib.Core.List.{List}
+use mathlib.Core.List.{List, []}
 use lib.ListN.{length, getD}
 use Rattle.words.specs.Words.{bitAt, turnAt}
 use Rattle.written.specs.Lists.{total, steps}
@@ -17,6 +17,10 @@ pub record Fixed : Type 0 where
 
 abbrev pub fixed : List ℕ → List ℕ → List ℕ → List ℕ → Fixed
 fixed s l o c = record { starts = s; literals = l; occurrenceStarts = o; occurrences = c }
+
+-- what a flip reads: no clause
+abbrev pub occurring : List ℕ → List ℕ → Fixed
+occurring o c = fixed [] [] o c
 
 -- the tables that a flip writes: the value words and the tallies
 pub record Moving : Type 0 where

@@ -5,10 +5,11 @@ use mathlib.Core.Bool.{cond}
 use mathlib.Core.List.{List}
 use lib.ListN.{length, getD, set}
 use lib.Dec.{eqb}
+use Rattle.written.specs.Lists.{steps}
 use Rattle.written.specs.Agreement.{partOf}
 use Rattle.machine.specs.Uncovered.{marks, enters, CanEnter}
-use Rattle.machine.specs.Tallies.{Tallies, tallies, raised, CanRaise}
-use Rattle.machine.specs.Moving.{Fixed, Moving, moving, View, view, CanRead, countAt, xorAt}
+use Rattle.machine.specs.Tallies.{Tallies, tallies, raised, CanRaise, CanSteps}
+use Rattle.machine.specs.Moving.{Fixed, Moving, moving, View, view, CanRead, countAt, xorAt, flipTerm, CanFlip}
 
 -- 0, 1 and on below n, one after the other
 unfoldable pub upTo : {S : Type 0} → (ℕ → S → S) → ℕ → S → S
@@ -51,6 +52,16 @@ opened n x w = withPlaces (rewritten (walkPlace (view (w .words) (x .starts) (x 
 
 unfoldable pub closed : ℕ → Moving → Moving
 closed n w = withPlaces (rewritten (restPlace (w .tallies .trues)) n (w .tallies .uncovered .places)) w
+
+-- a flip list on written tables of n clauses: opened, flipped and closed
+unfoldable pub applied : ℕ → Fixed → List ℕ → Moving → Moving
+applied n x ts w = closed n (steps (flipTerm x) ts (opened n x w))
+
+-- what it asks; top is 2 to the width of an entry
+pub record CanApply (top n : ℕ) (x : Fixed) (ts : List ℕ) (w : Moving) : Type 0 where
+  pub opens : CanOpen n (view (w .words) (x .starts) (x .literals)) (w .tallies .trues) (w .tallies .uncovered .places)
+  pub flips : CanSteps (CanFlip top x) (flipTerm x) ts (opened n x w)
+  pub closes : CanClose n (steps (flipTerm x) ts (opened n x w) .tallies .trues) (steps (flipTerm x) ts (opened n x w) .tallies .uncovered .places)
 
 -- ---- counting afresh
 

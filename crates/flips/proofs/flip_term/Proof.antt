@@ -1,0 +1,33 @@
+use Rattle.machine.proofs.Calls.{other-down, can-up, can-down, can-gain, is-gained, can-lose, is-flipped}
+use borrow.Author.Needs.{needs}
+use Rattle.flips.proofs.flip_term.Statement.{statement}
+use Rattle.flips.proofs.flip_term.Tie as tie
+
+part-requires : tie.Need-part-requires
+part-requires c κs = can-up _ _ _ (c .before .before .before .before .before .before .before .before .before .before .before .before .before .pre) (c .before .before .before .before .up-literal .ensures)
+
+gain-run-requires : tie.Need-gain-run-requires
+gain-run-requires c κs = can-gain _ _ _ (c .before .before .before .before .before .before .before .before .before .before .before .before .before .before .before .before .before .before .pre) (c .before .before .before .before .part .ensures) (c .before .before .before .before .before .before .before .before .before .up-literal .ensures)
+
+part-requires-2 : tie.Need-part-requires-2
+part-requires-2 c κs = can-down _ _ _ (c .before .before .before .before .before .before .before .before .before .before .before .before .before .before .before .before .before .before .before .before .before .before .before .before .before .before .before .pre) (other-down _ _ (c .before .before .before .before .before .before .before .before .before .before .before .before .before .before .before .before .before .before .up-literal .ensures))
+
+lose-run-requires : tie.Need-lose-run-requires
+lose-run-requires c κs =
+    let g = c .before .before .before .before .before .before .before .before .before .before .before .before .before in
+    let up = g .before .before .before .before .before .before .before .before .before .before .up-literal .ensures in
+    can-lose _ _ _ (g .before .before .before .before .before .before .before .before .before .before .before .before .before .before .before .before .before .before .before .pre) (is-gained _ _ _ (g .gain-run .ensures) (g .before .before .before .before .before .part .ensures) up) (c .before .before .before .before .part2 .ensures) (other-down _ _ up)
+
+returns : tie.Need-returns
+returns c =
+    let l = c .before .before .before .before .before .before .before .before in
+    let g = l .before .before .before .before .before .before .before .before .before .before .before .before .before .before in
+    let up = g .before .before .before .before .before .before .before .before .before .before .up-literal .ensures in
+    is-flipped _ _ _ (is-gained _ _ _ (g .gain-run .ensures) (g .before .before .before .before .before .part .ensures) up) (g .before .before .before .before .before .before .before .before .turn .ensures) (l .before .before .before .before .before .part2 .ensures) (other-down _ _ up)
+    (l .lose-run .ensures)
+
+pub flip-term-spec : {M : Type 1} → statement M
+flip-term-spec =
+    tie.close
+    (tie.spec (λ c κs. search needs) (λ c κs. search needs) part-requires gain-run-requires part-requires-2 lose-run-requires (λ c. search needs)
+    (λ c. search needs) (λ c. search needs) (λ c. search needs) (λ c. search needs) returns)

@@ -1,0 +1,11 @@
+use mathlib.Core.Path.{refl}
+use Rattle.machine.specs.Tallies.{lowered}
+use borrow.Author.Needs.{needs}
+use Rattle.flips.proofs.lower.Statement.{statement}
+use Rattle.flips.proofs.lower.Tie as tie
+
+pub lower-spec : {M : Type 1} → statement M
+unfolding lowered
+lower-spec =
+    tie.close
+    (tie.spec (λ c. search needs) (λ c. search needs) (λ c. search needs) (λ c. search needs) (λ c. search needs) (λ c. search needs) (λ c. refl))

@@ -1,0 +1,241 @@
+// The flip of a term on the lent tables while walking. No clause is read: the place of a covered clause is the xor of the terms of its true literals.
+// A function that another crate of the library calls may ask something of its tables, by one record; no caller outside the library can reach it.
+ghost use mathlib.Core.Path.{_≡_};
+ghost use Prim.Native.Nat.{_+_, _-_, _≤_, _<_};
+ghost use lib.ListN.{length, getD, set};
+ghost use Rattle.written.specs.Lists.{steps};
+ghost use Rattle.machine.specs.Uncovered.{uncovered, leaves, CanLeave};
+ghost use Rattle.machine.specs.Tallies.{tallies, lowered, CanLower, pickOf, hitOf, gainOne, loseOne, CanGain, CanLose, CanSteps};
+ghost use Rattle.machine.specs.Moving.{moving, occurring, upOf, flipTerm, CanFlip};
+
+// One less at k.
+fn lower(counts: &mut [u16], k: usize)
+    requires { ⌜ CanLower (now counts) k ⌝ }
+    ensures { λ _. ⌜ now (counts .exit) ≡ lowered (now (counts .entry)) k ⌝ }
+{
+    counts[k] = counts[k] - 1;
+}
+
+// Clause c leaves the uncovered list, and its place becomes v. Gives the list's new number.
+fn leave(list: &mut [u16], places: &mut [u16], number: usize, c: u16, v: u16) -> usize
+    requires { ⌜ CanLeave c (uncovered (now list) (now places) number) ⌝ }
+    ensures { λ r. ⌜ uncovered (now (list .exit)) (now (places .exit)) r ≡ leaves c v (uncovered (now (list .entry)) (now (places .entry)) number) ⌝ }
+{
+    let at = c as usize;
+    let slot = places[at];
+    let last = list[number - 1];
+    list[slot as usize] = last;
+    list[number - 1] = 0;
+    places[last as usize] = slot;
+    places[at] = v;
+    number - 1
+}
+
+// p where k is m, else v: no jump is made on it.
+fn pick(k: u16, m: u16, p: u16, v: u16) -> usize
+    ensures { λ r. ⌜ r ≡ pickOf k m p v ⌝ }
+{
+    if k == m {
+        return p as usize;
+    }
+    v as usize
+}
+
+// 1 where k is m, else 0.
+fn hit(k: u16, m: u16) -> u16
+    ensures { λ r. ⌜ r ≡ hitOf k m ⌝ }
+{
+    if k == m {
+        return 1;
+    }
+    0
+}
+
+// d more at k.
+fn raise_by(counts: &mut [u16], k: usize, d: u16)
+    requires { ⌜ (k < length (now counts)) × (getD (now counts) k 0 + d < 65536) ⌝ }
+    ensures { λ _. ⌜ now (counts .exit) ≡ set (now (counts .entry)) k (getD (now (counts .entry)) k 0 + d) ⌝ }
+{
+    counts[k] = counts[k] + d;
+}
+
+// d less at k.
+fn lower_by(counts: &mut [u16], k: usize, d: u16)
+    requires { ⌜ (k < length (now counts)) × (d ≤ getD (now counts) k 0) ⌝ }
+    ensures { λ _. ⌜ now (counts .exit) ≡ set (now (counts .entry)) k (getD (now (counts .entry)) k 0 - d) ⌝ }
+{
+    counts[k] = counts[k] - d;
+}
+
+// Clause c gains a true literal, of term v.
+fn gain_one(
+    trues: &mut [u16],
+    breaks: &mut [u16],
+    list: &mut [u16],
+    places: &mut [u16],
+    number: usize,
+    v: u16,
+    c: u16,
+) -> usize
+    requires { ⌜ CanGain 65536 v c (tallies (now trues) (now breaks) (now list) (now places) number) ⌝ }
+    ensures { λ r. ⌜ tallies (now (trues .exit)) (now (breaks .exit)) (now (list .exit)) (now (places .exit)) r
+        ≡ gainOne v c (tallies (now (trues .entry)) (now (breaks .entry)) (now (list .entry)) (now (places .entry)) number) ⌝ }
+{
+    let at = c as usize;
+    let k = trues[at];
+    tables::raise(trues, at);
+    if k == 0 {
+        tables::raise(breaks, v as usize);
+        return leave(list, places, number, c, v);
+    }
+    let p = places[at];
+    places[at] = p ^ v;
+    lower_by(breaks, pick(k, 1, p, v), hit(k, 1));
+    number
+}
+
+// Clause c loses a true literal, of term v.
+fn lose_one(
+    trues: &mut [u16],
+    breaks: &mut [u16],
+    list: &mut [u16],
+    places: &mut [u16],
+    number: usize,
+    v: u16,
+    c: u16,
+) -> usize
+    requires { ⌜ CanLose 65536 v c (tallies (now trues) (now breaks) (now list) (now places) number) ⌝ }
+    ensures { λ r. ⌜ tallies (now (trues .exit)) (now (breaks .exit)) (now (list .exit)) (now (places .exit)) r
+        ≡ loseOne v c (tallies (now (trues .entry)) (now (breaks .entry)) (now (list .entry)) (now (places .entry)) number) ⌝ }
+{
+    let at = c as usize;
+    let k = trues[at];
+    lower(trues, at);
+    if k == 1 {
+        lower(breaks, v as usize);
+        return tables::enter(list, places, number, c);
+    }
+    let p = places[at] ^ v;
+    places[at] = p;
+    raise_by(breaks, pick(k, 2, p, v), hit(k, 2));
+    number
+}
+
+// The clauses of a run gain a true literal each, of term v.
+fn gain_run(
+    run: &[u16],
+    trues: &mut [u16],
+    breaks: &mut [u16],
+    list: &mut [u16],
+    places: &mut [u16],
+    number: usize,
+    v: u16,
+) -> usize
+    requires { ⌜ CanSteps (CanGain 65536 v) (gainOne v) (now run) (tallies (now trues) (now breaks) (now list) (now places) number) ⌝ }
+    ensures { λ r. ⌜ tallies (now (trues .exit)) (now (breaks .exit)) (now (list .exit)) (now (places .exit)) r
+        ≡ steps (gainOne v) (now (run .entry)) (tallies (now (trues .entry)) (now (breaks .entry)) (now (list .entry)) (now (places .entry)) number) ⌝ }
+{
+    let mut n = number;
+    let mut i = 0;
+    while i < run.len() {
+        n = gain_one(trues, breaks, list, places, n, v, run[i]);
+        i += 1;
+    }
+    n
+}
+
+// The clauses of a run lose a true literal each, of term v.
+fn lose_run(
+    run: &[u16],
+    trues: &mut [u16],
+    breaks: &mut [u16],
+    list: &mut [u16],
+    places: &mut [u16],
+    number: usize,
+    v: u16,
+) -> usize
+    requires { ⌜ CanSteps (CanLose 65536 v) (loseOne v) (now run) (tallies (now trues) (now breaks) (now list) (now places) number) ⌝ }
+    ensures { λ r. ⌜ tallies (now (trues .exit)) (now (breaks .exit)) (now (list .exit)) (now (places .exit)) r
+        ≡ steps (loseOne v) (now (run .entry)) (tallies (now (trues .entry)) (now (breaks .entry)) (now (list .entry)) (now (places .entry)) number) ⌝ }
+{
+    let mut n = number;
+    let mut i = 0;
+    while i < run.len() {
+        n = lose_one(trues, breaks, list, places, n, v, run[i]);
+        i += 1;
+    }
+    n
+}
+
+// The literal of term v that becomes true as v is flipped.
+fn up_literal(values: &[u32], v: u16) -> usize
+    ensures { λ r. ⌜ r ≡ upOf (now (values .entry)) v ⌝ }
+{
+    let t = v as usize;
+    2 * t + (words::value(values, t) as usize)
+}
+
+// The flip of term v: the clauses of the literal that becomes true, then those of the literal that becomes false. Gives the uncovered list's new number.
+pub fn flip_term(
+    values: &mut [u32],
+    occurrence_starts: &[u16],
+    occurrences: &[u16],
+    trues: &mut [u16],
+    breaks: &mut [u16],
+    list: &mut [u16],
+    places: &mut [u16],
+    number: usize,
+    v: u16,
+) -> usize
+    requires { ⌜ CanFlip 65536 (occurring (now «occurrence_starts») (now occurrences)) v
+        (moving (now values) (tallies (now trues) (now breaks) (now list) (now places) number)) ⌝ }
+    ensures { λ r. ⌜ moving (now (values .exit)) (tallies (now (trues .exit)) (now (breaks .exit)) (now (list .exit)) (now (places .exit)) r)
+        ≡ flipTerm (occurring (now («occurrence_starts» .entry)) (now (occurrences .entry))) v
+        (moving (now (values .entry)) (tallies (now (trues .entry)) (now (breaks .entry)) (now (list .entry)) (now (places .entry)) number)) ⌝ }
+{
+    let up = up_literal(values, v);
+    words::turn(values, v as usize);
+    let gains = tables::part(occurrence_starts, occurrences, up);
+    let n = gain_run(gains, trues, breaks, list, places, number, v);
+    // the other literal of v
+    let losses = tables::part(occurrence_starts, occurrences, up ^ 1);
+    lose_run(losses, trues, breaks, list, places, n, v)
+}
+
+// The flips of the terms, in order. Gives the uncovered list's new number.
+pub fn flip_all(
+    terms: &[u16],
+    values: &mut [u32],
+    occurrence_starts: &[u16],
+    occurrences: &[u16],
+    trues: &mut [u16],
+    breaks: &mut [u16],
+    list: &mut [u16],
+    places: &mut [u16],
+    number: usize,
+) -> usize
+    requires { ⌜ CanSteps (CanFlip 65536 (occurring (now «occurrence_starts») (now occurrences)))
+        (flipTerm (occurring (now «occurrence_starts») (now occurrences))) (now terms)
+        (moving (now values) (tallies (now trues) (now breaks) (now list) (now places) number)) ⌝ }
+    ensures { λ r. ⌜ moving (now (values .exit)) (tallies (now (trues .exit)) (now (breaks .exit)) (now (list .exit)) (now (places .exit)) r)
+        ≡ steps (flipTerm (occurring (now («occurrence_starts» .entry)) (now (occurrences .entry)))) (now (terms .entry))
+        (moving (now (values .entry)) (tallies (now (trues .entry)) (now (breaks .entry)) (now (list .entry)) (now (places .entry)) number)) ⌝ }
+{
+    let mut n = number;
+    let mut i = 0;
+    while i < terms.len() {
+        n = flip_term(
+            values,
+            occurrence_starts,
+            occurrences,
+            trues,
+            breaks,
+            list,
+            places,
+            n,
+            terms[i],
+        );
+        i += 1;
+    }
+    n
+}
