@@ -2,7 +2,7 @@
 use Prim.Native.Nat.{ℕ, zero, suc, _<_}
 use mathlib.Core.Path.{_≡_, refl, ap, sym, _∙_}
 use mathlib.Core.Bool.{Bool, true, _&&_, false≢true, and-assoc}
-use mathlib.Core.List.{List, [], _∷_, _++_}
+use mathlib.Core.List.{List, [], _∷_, _++_, flatten}
 use native.Mathlib.Omega.{arith}
 use lib.ListN.{length, getD, set, take, drop}
 use lib.Dec.{eqb}
@@ -15,6 +15,13 @@ use Rattle.laws.proofs.Lists.{listFrom-length, getD-listOf}
 pub all-append : {A : Type 0} (p : A → Bool) (xs ys : List A) → all p (xs ++ ys) ≡ (all p xs && all p ys)
 all-append p [] ys = refl
 all-append p (x ∷ xs) ys = ap (λ (b : Bool). p x && b) (all-append p xs ys) ∙ sym (and-assoc (p x) (all p xs) (all p ys))
+
+-- the entries of every list of a list
+pub all-flatten : {A : Type 0} (p : A → Bool) (ps : List (List A)) → all (all p) ps ≡ true → all p (flatten ps) ≡ true
+unfolding flatten
+all-flatten p [] h = refl
+all-flatten p (x ∷ xs) h =
+    all-append p x (flatten xs) ∙ both (all p x) (all p (flatten xs)) (both-first (all p x) (all (all p) xs) h) (all-flatten p xs (both-second (all p x) (all (all p) xs) h))
 
 -- one entry more at the end
 pub all-snoc : {A : Type 0} (p : A → Bool) (xs : List A) (y : A) → all p xs ≡ true → p y ≡ true → all p (xs ++ y ∷ []) ≡ true

@@ -2,10 +2,10 @@
 use Prim.Native.Nat.{ℕ, _+_, _*_, _≤_}
 use mathlib.Core.Path.{_≡_, refl, ap, sym, _∙_}
 use mathlib.Core.Bool.{true, cond}
-use mathlib.Core.List.{List, [], map, flatten}
+use mathlib.Core.List.{List, [], _∷_, map, flatten}
 use native.Mathlib.Omega.{arith}
 use lib.ListN.{length, getD, length-map}
-use lib.Dec.{ltb}
+use lib.Dec.{eqb, ltb}
 use Rattle.words.specs.Words.{wordCount}
 use Rattle.written.specs.declared.Counts.{Counts}
 use Rattle.written.specs.Lists.{total, all, listOf, below, has, times, differ}
@@ -15,8 +15,8 @@ use Rattle.written.specs.Tables.{sizes, fullSizes, countsOf, inUse, turnedRound
 use Rattle.laws.specs.Valid.{isClause, Valid}
 use Rattle.laws.proofs.Basics.{both-first, both-second}
 use Rattle.laws.proofs.Lists.{listFrom-length}
-use Rattle.laws.proofs.Sums.{total-by, total-swap, total-listFrom}
-use Rattle.laws.proofs.All.{all-getD}
+use Rattle.laws.proofs.Sums.{total-append, total-by, total-listFrom}
+use Rattle.laws.proofs.All.{all-flatten, all-implied, all-getD}
 use Rattle.laws.proofs.Membership.{differ-map}
 use Rattle.laws.proofs.Times.{where-length, times-below, differ-times}
 use Rattle.laws.proofs.Parts.{starts-length, flatten-length}
@@ -42,22 +42,24 @@ module _ (n : ℕ) (ls : List ℕ) (h : isClause n ls ≡ true) where
 
 -- ---- the literals turned round are as many
 
--- each literal of a clause is one of those below 2n, once
-once-each : (n : ℕ) (ls : List ℕ) → isClause n ls ≡ true → total (λ l. cond (has l ls) 1 0) (below (2 * n)) ≡ length ls
-once-each n ls h =
-    total-by (λ l. cond (has l ls) 1 0) (λ l. times l ls) (below (2 * n)) 0
-    (λ k l. sym (differ-times (getD (below (2 * n)) k 0) ls (differ-map termOf ls (clause-differs n ls h))))
-    ∙ times-below (2 * n) ls (clause-below n ls h)
+times-flatten : (l : ℕ) (cs : List (List ℕ)) → times l (flatten cs) ≡ total (times l) cs
+unfolding flatten
+times-flatten l [] = refl
+times-flatten l (c ∷ cs) = total-append (λ m. cond (eqb l m) 1 0) c (flatten cs) ∙ ap (λ n. times l c + n) (times-flatten l cs)
 
-round-length : (n : ℕ) (cs : List (List ℕ)) → all (isClause n) cs ≡ true → length (flatten (listOf (2 * n) (occurrencesOf cs))) ≡ total length cs
+-- in clauses without repeats a literal stands as often as there are clauses in which it stands
+pub occurrences-times : (l : ℕ) (cs : List (List ℕ)) → all differ cs ≡ true → length (occurrencesOf cs l) ≡ times l (flatten cs)
 unfolding occurrencesOf
-round-length n cs h =
+occurrences-times l cs d =
+    where-length 0 (has l) cs ∙ total-by (λ c. cond (has l c) 1 0) (times l) cs [] (λ k h. sym (differ-times l (getD cs k []) (all-getD differ cs k [] h d)))
+    ∙ sym (times-flatten l cs)
+
+pub round-length : (n : ℕ) (cs : List (List ℕ)) → all (all (λ l. ltb l (2 * n))) cs ≡ true → all differ cs ≡ true
+    → length (flatten (listOf (2 * n) (occurrencesOf cs))) ≡ total length cs
+round-length n cs low once =
     flatten-length (listOf (2 * n) (occurrencesOf cs)) ∙ total-listFrom length (occurrencesOf cs) 0 (2 * n)
-    ∙ total-by (λ l. length (occurrencesOf cs l)) (λ l. total (λ ls. cond (has l ls) 1 0) cs) (below (2 * n)) 0
-    (λ k l. where-length 0 (has (getD (below (2 * n)) k 0)) cs)
-    ∙ total-swap (λ l ls. cond (has l ls) 1 0) (below (2 * n)) cs
-    ∙ total-by (λ ls. total (λ l. cond (has l ls) 1 0) (below (2 * n))) length cs []
-    (λ k l. once-each n (getD cs k []) (all-getD (isClause n) cs k [] l h))
+    ∙ total-by (λ l. length (occurrencesOf cs l)) (λ l. times l (flatten cs)) (below (2 * n)) 0 (λ k l. occurrences-times _ cs once)
+    ∙ times-below (2 * n) (flatten cs) (all-flatten (λ l. ltb l (2 * n)) cs low) ∙ flatten-length cs
 
 -- ---- entries in use
 
@@ -68,7 +70,11 @@ in-use lim s v Values = words-length (s .values) ∙ ap wordCount (v .one-each)
 in-use lim s v Starts = starts-length 0 (s .file .clauses)
 in-use lim s v Literals = flatten-length (s .file .clauses)
 in-use lim s v OccurrenceStarts = starts-length 0 _ ∙ ap (λ n. n + 1) (listFrom-length 0 (2 * length (s .file .names)) (occurrencesOf (s .file .clauses)))
-in-use lim s v Occurrences = round-length (length (s .file .names)) (s .file .clauses) (v .proper .clauses-valid)
+in-use lim s v Occurrences =
+    let n = length (s .file .names) in
+    let cs = s .file .clauses in
+    round-length n cs (all-implied (isClause n) (all (λ l. ltb l (2 * n))) (clause-below n) cs (v .proper .clauses-valid))
+    (all-implied (isClause n) differ (λ ls h. differ-map termOf ls (clause-differs n ls h)) cs (v .proper .clauses-valid))
 in-use lim s v Trues = length-map (s .file .clauses) _
 in-use lim s v Breaks = listFrom-length 0 (length (s .file .names)) _
 in-use lim s v Uncovered = refl

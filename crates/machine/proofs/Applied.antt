@@ -2,7 +2,7 @@
 use mathlib.Core.Path.{_≡_, ap, sym, subst, subst₂, _∙_}
 use mathlib.Core.Bool.{true}
 use mathlib.Core.List.{List}
-use Prim.Native.Nat.{ℕ, _+_, _*_, _<_}
+use Prim.Native.Nat.{ℕ, _+_, _*_, _≤_, _<_}
 use lib.ListN.{length}
 use Rattle.written.specs.declared.Counts.{Counts}
 use Rattle.written.specs.Lists.{steps}
@@ -13,6 +13,8 @@ use Rattle.written.specs.Agreement.{stateIn, agree}
 use Rattle.written.specs.Flips.{flipped}
 use Rattle.laws.specs.Valid.{Valid}
 use Rattle.laws.proofs.Flips.{flipped-file}
+use Rattle.laws.proofs.Kept.{flipped-valid}
+use Rattle.laws.proofs.Sizes.{valid-fit}
 use Rattle.laws.proofs.Agreeing.{agree-valid, agree-counts, agree-holding}
 use Rattle.machine.specs.Moving.{Moving, view, flipTerm}
 use Rattle.machine.specs.Passes.{opened, closed, CanOpen, CanClose, applied, CanApply}
@@ -108,3 +110,18 @@ module _ (lim : Limits) (top : ℕ) (fc : lim .clauses + 1 < top) (ft : 2 * lim 
         let m = sym names-kept in
         λ i. lent (m i) (e i .words) (f i .starts) (f i .literals) (f i .occurrenceStarts) (f i .occurrences) (e i .tallies .trues) (e i .tallies .breaks)
         (e i .tallies .uncovered .list) (e i .tallies .uncovered .places)
+
+    r-valid : Valid lim r
+    r-valid = flipped-valid lim ts s valid (subst (λ (k : ℕ). termsOf k ts ≡ true) (valid .one-each) known)
+
+    -- the number of uncovered clauses is within the limit
+    pub agree-few : length (r .uncovered) ≤ lim .clauses
+    unfolding countsOf
+    agree-few = valid-fit lim r r-valid .uncovered
+
+    -- the counts are those given, with that number
+    pub agree-counted : {k : ℕ} → k ≡ length (r .uncovered) → _≡_ {A = Counts} (record { terms = n .terms; clauses = n .clauses; literals = n .literals; uncovered = k }) (countsOf r)
+    unfolding countsOf
+    agree-counted e =
+        let a = sym (agree-counts lim n t ok full) ∙ ap (λ f. countsOf (record { file = f; values = s .values; uncovered = s .uncovered })) (sym (flipped-file ts s)) in
+        λ i. record { terms = a i .terms; clauses = a i .clauses; literals = a i .literals; uncovered = e i }

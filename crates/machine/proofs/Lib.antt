@@ -50,5 +50,12 @@ pub mod CountsTested
 pub mod File
 pub mod Rest
 pub mod Judged
+-- turning round
+pub mod Cleared
+pub mod Tallying
+pub mod Summing
+pub mod Filling
+pub mod Rounds
+pub mod Rounding
 -- a flip list on tables that agree
 pub mod Applied

@@ -11,3 +11,4 @@ pub mod Cuts
 pub mod Marks
 pub mod Tested
 pub mod Matching
+pub mod Filling

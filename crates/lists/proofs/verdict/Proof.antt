@@ -1,0 +1,40 @@
+-- `lists::verdict` meets its contract: each way out has the tests that lead there. Assumes nothing.
+use mathlib.Core.Path.{refl, sym, _∙_}
+use borrow.Author.Needs.{needs}
+use borrow.Author.Tests.{lt-ltb, le-ltb}
+use Rattle.machine.proofs.Tests.{said-no, said-yes}
+use Rattle.lists.specs.Tests.{testsOf}
+use Rattle.lists.proofs.Laws.{agree-no, agree-yes}
+use Rattle.lists.proofs.verdict.Statement.{statement}
+use Rattle.lists.proofs.verdict.Tie as tie
+
+returns : tie.Need-returns
+unfolding testsOf
+returns c = rw (said-no (c .if1 .taken) (c .before .are-full .ensures)) refl
+
+returns-2 : tie.Need-returns-2
+unfolding testsOf
+returns-2 c = rw (said-yes (c .before .if1 .left) (c .before .before .are-full .ensures), lt-ltb _ _ (c .if2 .taken)) refl
+
+returns-3 : tie.Need-returns-3
+unfolding testsOf
+returns-3 c =
+    let full = said-yes (c .before .before .before .if1 .left) (c .before .before .before .before .are-full .ensures) in
+    rw (full, le-ltb _ _ (c .before .before .if2 .left), agree-no _ _ full (said-no (c .if3 .taken) (c .before .agrees .ensures))) refl
+
+returns-4 : tie.Need-returns-4
+unfolding testsOf
+returns-4 c =
+    let full = said-yes (c .before .before .before .before .before .if1 .left) (c .before .before .before .before .before .before .are-full .ensures) in
+    rw (full, le-ltb _ _ (c .before .before .before .before .if2 .left), agree-yes _ _ full (said-yes (c .before .before .if3 .left) (c .before .before .before .agrees .ensures)), said-no (c .if4 .taken) (c .before .known .ensures)) refl
+
+returns-5 : tie.Need-returns-5
+unfolding testsOf
+returns-5 c =
+    let full = said-yes (c .before .before .before .before .before .if1 .left) (c .before .before .before .before .before .before .are-full .ensures) in
+    rw (full, le-ltb _ _ (c .before .before .before .before .if2 .left), agree-yes _ _ full (said-yes (c .before .before .if3 .left) (c .before .before .before .agrees .ensures)), said-yes (c .if4 .left) (c .before .known .ensures)) refl
+
+pub verdict-spec : {M : Type 1} → statement M
+verdict-spec =
+    tie.close
+    (tie.spec (λ c κs. search needs) returns returns-2 (λ c κs. search needs) returns-3 (λ c κs. search needs) returns-4 returns-5)

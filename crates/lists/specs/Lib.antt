@@ -1,0 +1,2 @@
+-- What the tests of a flip list come to.
+pub mod Tests
