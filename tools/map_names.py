@@ -4,7 +4,7 @@
 `CRATE/File.name`        a definition of crates/CRATE/specs or a law of crates/CRATE/proofs
 `CRATE::name`            a public function of crates/CRATE/src, also `CRATE::Type::name`
 `CRATE/must-fail/name`   an edit
-`FILE.rs::name`          a test of tests/oracle/tests/FILE.rs"""
+`FILE.rs::name`          a test of tests/oracle/tests/FILE.rs or tests/boundary/tests/FILE.rs"""
 import re
 import sys
 from pathlib import Path
@@ -24,11 +24,12 @@ def declared(crate, file, name):
 
 def function(crate, path):
     source = text((ROOT / "crates" / crate / "src").glob("*.rt"))
-    return re.search(r"pub fn %s[<(]" % re.escape(path.split("::")[-1]), source)
+    return re.search(r'pub (extern "C" )?fn %s[<(]' % re.escape(path.split("::")[-1]), source)
 
 
 def test(file, name):
-    return re.search(r"fn %s\w*\(" % re.escape(name), text([ROOT / "tests/oracle/tests" / f"{file}.rs"]))
+    homes = [ROOT / "tests" / package / "tests" / f"{file}.rs" for package in ("oracle", "boundary")]
+    return re.search(r"fn %s\w*\(" % re.escape(name), text(homes))
 
 
 def stands(cited):

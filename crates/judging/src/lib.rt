@@ -18,6 +18,8 @@ ghost use Rattle.machine.specs.Matching.{cutsRight, standsAt, isNext, passOne, 
 ghost use Rattle.machine.specs.Tested.{countOf, onesIn, breakAt, breakTested, placeTested, InCounts, CanTrues, CanBreaks, CanList, CanCounts};
 use written::Counts;
 
+// ---- full sizes and counts
+
 // The counts are within their limits, and at least one clause stands.
 fn counts_fit(n: Counts) -> bool
     ensures { λ r. ⌜ r ≡ countsFit narrow n ⌝ }
@@ -82,6 +84,8 @@ pub fn are_full(
     }
     places.len() >= 8192
 }
+
+// ---- names, starts, literals
 
 // A name of 1 to 8 bytes, each 33 to 125, the first lowest.
 fn is_name(x: u64) -> bool
@@ -252,6 +256,8 @@ fn file_agrees(n: Counts, names: &[u64], starts: &[u16], literals: &[u16]) -> bo
     false
 }
 
+// ---- occurrences
+
 // Starts of that many parts begin at 0, never fall, and end at `end`.
 fn starts_cut(starts: &[u16], parts: usize, end: usize) -> bool
     requires { ⌜ parts < length (now starts) ⌝ }
@@ -379,7 +385,7 @@ fn runs_passed(n: Counts, occurrence_starts: &[u16], occurrences: &[u16], passed
     true
 }
 
-// "Occurrence starts and occurrences are exactly the literals turned round".
+// Occurrence starts and occurrences are exactly the literals turned round.
 fn occurrences_agree(
     n: Counts,
     starts: &[u16],
@@ -409,6 +415,8 @@ fn occurrences_agree(
     }
     false
 }
+
+// ---- true, break and uncovered counts, and the list
 
 // The true counts are those of the values.
 fn trues_agree(n: Counts, values: &[u32], starts: &[u16], literals: &[u16], trues: &[u16]) -> bool
@@ -572,6 +580,8 @@ fn counts_agree(
     false
 }
 
+// ---- the rest
+
 // Every entry is 0.
 fn all_zero(table: &[u16]) -> bool
     ensures { λ r. ⌜ r ≡ all (λ x. eqb x 0) (now (table .entry)) ⌝ }
@@ -703,6 +713,8 @@ fn count_rests(n: Counts, trues: &[u16], breaks: &[u16], uncovered: &[u16], plac
     }
     rest_zero(places, clauses, 8192)
 }
+
+// ---- all points together
 
 // Names, starts, literals and occurrences hold a file.
 fn clauses_hold(

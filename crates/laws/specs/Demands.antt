@@ -1,12 +1,22 @@
--- Demand 3, in the service's own words, of states: "Take one accepted clause file, any starting values and any list of flips of known terms."
--- Assumes nothing.
-use Prim.Native.Nat.{ℕ, _-_, _%_, _<_}
+-- Demand 3, in the service's own words, of states and of calls: "Take one accepted clause file, any starting values and any list of up to
+-- 65,536 flips of known terms." Assumes nothing.
+use Prim.Native.Nat.{ℕ, _-_, _%_, _≤_, _<_}
 use mathlib.Core.Path.{_≡_}
+use mathlib.Core.Bool.{true, false}
 use mathlib.Core.List.{List, map}
-use lib.ListN.{length, getD}
-use Rattle.written.specs.Lists.{times}
+use lib.ListN.{length, getD, take, drop}
+use lib.Dec.{ltb}
+use Rattle.written.specs.declared.Counts.{Counts}
+use Rattle.written.specs.declared.Flipped.the-variants as F
+use Rattle.written.specs.Lists.{all, has, times}
+use Rattle.written.specs.Limits.{Limits}
 use Rattle.written.specs.Clauses.{State, trueCount, breakCount, afresh}
 use Rattle.written.specs.Flips.{flipped}
+use Rattle.written.specs.Tables.{Tables, each, fullSizes, areFull, holding}
+use Rattle.written.specs.Agreement.{stateIn, agree}
+use Rattle.written.specs.Outcomes.{flipsOf}
+
+-- ---- of states
 
 -- "only the order within the uncovered list, and the places noted for it, may differ"
 pub record SameButOrder (a b : State) : Type 0 where
@@ -27,3 +37,48 @@ pub record AfterFlips (ts : List ℕ) (s : State) : Type 0 where
   pub worked-out : SameButOrder (flipped ts s) (afresh (s .file) (flipped ts s .values))
   -- "So two lists that name each term equally often, in any order, leave the same"
   pub any-order : (us : List ℕ) → ((t : ℕ) → times t ts ≡ times t us) → SameButOrder (flipped ts s) (flipped us s)
+
+-- ---- of calls: `flipsOf lim ts n t` is what the flip list ts answers and leaves, with counts n and lent tables t
+
+-- what is asked of a call: full tables that agree with the counts, and a list within its limit of flips of known terms
+pub record Acceptable (lim : Limits) (ts : List ℕ) (n : Counts) (t : Tables) : Type 0 where
+  pub full : areFull lim t ≡ true
+  pub short : length ts ≤ lim .list
+  pub agrees : agree lim n t ≡ true
+  pub known : all (λ v. ltb v (n .terms)) ts ≡ true
+
+-- "only the order within the uncovered list, and the places noted for it, may differ", where k clauses are uncovered
+pub record SameButList (k : ℕ) (a b : Tables) : Type 0 where
+  pub names : a .names ≡ b .names
+  pub values : a .values ≡ b .values
+  pub starts : a .starts ≡ b .starts
+  pub literals : a .literals ≡ b .literals
+  pub occurrence-starts : a .occurrenceStarts ≡ b .occurrenceStarts
+  pub occurrences : a .occurrences ≡ b .occurrences
+  pub trues : a .trues ≡ b .trues
+  pub breaks : a .breaks ≡ b .breaks
+  -- the same clauses in the list, and the same past it
+  pub listed : (c : ℕ) → times c (take k (a .uncovered)) ≡ times c (take k (b .uncovered))
+  pub past-list : drop k (a .uncovered) ≡ drop k (b .uncovered)
+  -- as many places, and the same but for the clauses in the list
+  pub places-count : length (a .places) ≡ length (b .places)
+  pub other-places : (c : ℕ) → has c (take k (a .uncovered)) ≡ false → getD (a .places) c 0 ≡ getD (b .places) c 0
+
+-- what a call has done that answered with counts m: "Flip lists are applied whole"
+pub record Accepted (lim : Limits) (ts : List ℕ) (n m : Counts) (t : Tables) : Type 0 where
+  -- the tables hold the state after the flips, and nothing else up to their full sizes; what lies past these is untouched
+  pub state : stateIn m (flipsOf lim ts n t .tables) ≡ flipped ts (stateIn n t)
+  pub whole : flipsOf lim ts n t .tables ≡ holding lim (flipped ts (stateIn n t)) t
+  pub beyond : each drop (fullSizes lim) (flipsOf lim ts n t .tables) ≡ each drop (fullSizes lim) t
+  -- that state is the one demanded
+  pub after : AfterFlips ts (stateIn n t)
+  -- the file's counts are those given
+  pub terms : m .terms ≡ n .terms
+  pub clauses : m .clauses ≡ n .clauses
+  pub literals : m .literals ≡ n .literals
+  -- the tables are full and agree again, so they can be given to the next call
+  pub full : areFull lim (flipsOf lim ts n t .tables) ≡ true
+  pub agrees : agree lim m (flipsOf lim ts n t .tables) ≡ true
+  -- "two lists that name each term equally often, in any order, leave the same": the other is accepted too, with the same counts
+  pub any-order : (us : List ℕ) → ((v : ℕ) → times v ts ≡ times v us)
+      → (flipsOf lim us n t .answer ≡ F.Applied m) × SameButList (m .uncovered) (flipsOf lim ts n t .tables) (flipsOf lim us n t .tables)

@@ -15,6 +15,8 @@ ghost use Rattle.machine.specs.Tallies.{raised, CanRaise, CanSteps, tallies};
 ghost use Rattle.machine.specs.Uncovered.{uncovered, enters, CanEnter};
 use written::Counts;
 
+// ---- reading a clause
+
 // The value of a literal.
 fn literal_value(words: &[u32], l: u16) -> u32
     ensures { λ r. ⌜ r ≡ valueIn (now (words .entry)) l ⌝ }
@@ -67,6 +69,8 @@ pub fn part<'a>(starts: &[u16], items: &'a [u16], k: usize) -> &'a [u16]
     let to = starts[k + 1] as usize;
     &items[from..to]
 }
+
+// ---- clearing, and the literals turned round
 
 // One more at k.
 pub fn raise(counts: &mut [u16], k: usize)
@@ -269,6 +273,8 @@ pub fn turn_round(
     );
     clear(cursors, runs);
 }
+
+// ---- the places for walking, and counts afresh
 
 // Clause c put at the end of the uncovered list; the new number of its entries.
 pub fn enter(list: &mut [u16], places: &mut [u16], number: usize, c: u16) -> usize

@@ -1,0 +1,253 @@
+-- Demand 3 of the library's call: a flip list is applied whole or refused whole, and accepted it leaves what is demanded, in any order.
+-- Assumes nothing.
+use Prim.Native.Nat.{ℕ, _+_, _-_, _≤_, _<_}
+use mathlib.Core.Logic.{_↔_, _⊎_, inl, inr}
+use mathlib.Core.Path.{_≡_, refl, ap, sym, subst, subst₂, _∙_}
+use mathlib.Core.Bool.{Bool, true, false, false≢true, true≢false}
+use mathlib.Core.List.{List, []}
+use native.Mathlib.Omega.{arith}
+use lib.ListN.{length, getD, take, drop, length-drop}
+use lib.Seq.{ext-getD, getD-drop, getD-take}
+use lib.Dec.{ltb}
+use borrow.Author.Tests.{le-ltb, ltb-false}
+use Rattle.written.specs.declared.Counts.{Counts}
+use Rattle.written.specs.declared.Reason.{Reason}
+use Rattle.written.specs.declared.Reason.the-variants.{ShortTable, Disagreement, UnknownTerm, LongList}
+use Rattle.written.specs.declared.Refusal.{Refusal}
+use Rattle.written.specs.declared.Flipped.{Flipped}
+use Rattle.written.specs.declared.Flipped.the-variants as F
+use Rattle.written.specs.Lists.{all, total, has, times}
+use Rattle.written.specs.Limits.{Limits}
+use Rattle.written.specs.Clauses.{File, State, afresh}
+use Rattle.written.specs.Reading.{accepted, readText}
+use Rattle.written.specs.Flips.{flipped}
+use Rattle.written.specs.Tables.{Tables, each, sizes, fullSizes, areFull, inUse, tablesOf, placeIn, countsOf, holding}
+use Rattle.written.specs.Agreement.{stateIn, agree}
+use Rattle.written.specs.Outcomes.{Leaves, flipsRefused, flipsLeave, flipsOf}
+use Rattle.laws.specs.Valid.{Bits, Valid}
+use Rattle.laws.specs.Demands.{SameButOrder, AfterFlips, Acceptable, SameButList, Accepted}
+use Rattle.laws.proofs.Basics.{by-cases, by-lt}
+use Rattle.laws.proofs.Lists.{getD-listOf}
+use Rattle.laws.proofs.Padding.{over-drop}
+use Rattle.laws.proofs.Times.{has-is, reordered-length, reordered-all}
+use Rattle.laws.proofs.Flips.{flipped-file}
+use Rattle.laws.proofs.Kept.{flipped-valid}
+use Rattle.laws.proofs.AnyOrder.{demand-three, afresh-listed}
+use Rattle.laws.proofs.Each.{at, by-each, each-at}
+use Rattle.laws.proofs.Each.Table.{Uncovered, Places}
+use Rattle.laws.proofs.Holding.{tables-length, holding-at, holding-full, holding-used, holding-sizes, holding-past}
+use Rattle.laws.proofs.Back.{holding-back}
+use Rattle.laws.proofs.Agreeing.{agree-valid, agree-counts}
+use Rattle.laws.proofs.Agrees.{holding-agrees}
+use Rattle.laws.proofs.Readings.{reading-proper}
+
+-- ---- lent tables into which a state is written, and another that differs from it in the order of its list alone
+
+-- lists as long that are the same from k on
+drop-by : (k : ℕ) (xs ys : List ℕ) → length xs ≡ length ys → ((j : ℕ) → k ≤ j → getD xs j 0 ≡ getD ys j 0) → drop k xs ≡ drop k ys
+drop-by k xs ys e h =
+    ext-getD 0 (drop k xs) (drop k ys) (length-drop k xs ∙ ap (λ (m : ℕ). m - k) e ∙ sym (length-drop k ys))
+    (λ j l. getD-drop k xs j 0 ∙ h (k + j) (omega arith) ∙ sym (getD-drop k ys j 0))
+
+-- what lies past the full sizes is untouched
+pub holding-beyond : (lim : Limits) (s : State) (t : Tables) → Valid lim s → each drop (fullSizes lim) (holding lim s t) ≡ each drop (fullSizes lim) t
+holding-beyond lim s t v =
+    by-each _ _
+    (λ k. each-at drop k (fullSizes lim) (holding lim s t) ∙ ap (drop (at k (fullSizes lim))) (holding-at lim s t k)
+    ∙ over-drop (at k (tablesOf lim s)) (at k t) (at k (fullSizes lim)) (tables-length lim s k v) ∙ sym (each-at drop k (fullSizes lim) t))
+
+module _ (lim : Limits) (s : State) (t : Tables) (v : Valid lim s) where
+  list-back : take (length (s .uncovered)) (holding lim s t .uncovered) ≡ s .uncovered
+  unfolding each sizes countsOf inUse
+  list-back = ap (λ (u : Tables). u .uncovered) (holding-used lim s t v)
+
+  -- a clause that is not in the list has no place
+  no-place : (c : ℕ) → c < length (s .file .clauses) → has c (s .uncovered) ≡ false → getD (holding lim s t .places) c 0 ≡ 0
+  unfolding each sizes countsOf inUse placeIn
+  no-place c l e =
+      sym (getD-take (length (s .file .clauses)) (holding lim s t .places) c 0 l) ∙ ap (λ (u : Tables). getD (u .places) c 0) (holding-used lim s t v)
+      ∙ getD-listOf (length (s .file .clauses)) c (placeIn (s .uncovered)) 0 l ∙ rw e refl
+
+module _ (lim : Limits) (a b : State) (t : Tables) (va : Valid lim a) (vb : Valid lim b) (o : SameButOrder a b) where
+  same-counts : countsOf a ≡ countsOf b
+  unfolding countsOf
+  same-counts =
+      λ i. record {
+        terms = length (o .file i .names);
+        clauses = length (o .file i .clauses);
+        literals = total length (o .file i .clauses);
+        uncovered = o .uncovered-count i;
+      }
+
+  other-places : (c : ℕ) → has c (a .uncovered) ≡ false → getD (holding lim a t .places) c 0 ≡ getD (holding lim b t .places) c 0
+  unfolding sizes countsOf
+  other-places c e =
+      let n = ap (λ (f : File). length (f .clauses)) (o .file) in
+      let has-no = sym (has-is c (a .uncovered) ∙ ap (λ (k : ℕ). ltb 0 k) (o .uncovered c) ∙ sym (has-is c (b .uncovered))) ∙ e in
+      by-lt c (length (a .file .clauses)) (λ l. no-place lim a t va c l e ∙ sym (no-place lim b t vb c (omega arith) has-no))
+      (λ l. holding-past lim a b t Places va vb c l (omega arith))
+
+  same-tables : SameButList (length (a .uncovered)) (holding lim a t) (holding lim b t)
+  unfolding holding tablesOf each inUse sizes countsOf
+  same-tables =
+      record {
+        names = λ i. between i .names;
+        values = λ i. between i .values;
+        starts = λ i. between i .starts;
+        literals = λ i. between i .literals;
+        occurrence-starts = λ i. between i .occurrenceStarts;
+        occurrences = λ i. between i .occurrences;
+        trues = λ i. between i .trues;
+        breaks = λ i. between i .breaks;
+        listed = λ c. ap (times c) (list-back lim a t va) ∙ o .uncovered c ∙ sym (ap (times c) in-b);
+        past-list = drop-by (length (a .uncovered)) (holding lim a t .uncovered) (holding lim b t .uncovered) (holding-sizes lim a b t Uncovered va vb)
+            (λ j l. holding-past lim a b t Uncovered va vb j l (omega (arith, o .uncovered-count)));
+        places-count = holding-sizes lim a b t Places va vb;
+        other-places = λ c e. other-places c (ap (has c) (sym (list-back lim a t va)) ∙ e);
+      }
+    where
+      between : 𝕀 → Tables
+      between i = holding lim (record { file = o .file i; values = o .values i; uncovered = [] }) t
+
+      in-b : take (length (a .uncovered)) (holding lim b t .uncovered) ≡ b .uncovered
+      in-b = ap (λ (k : ℕ). take k (holding lim b t .uncovered)) (o .uncovered-count) ∙ list-back lim b t vb
+
+-- ---- what a call answers
+
+abbrev isApplied : Flipped → Bool
+isApplied (F.Applied m) = true
+isApplied (F.Refused e) = false
+
+abbrev countsIn : Flipped → Counts
+countsIn (F.Applied m) = m
+countsIn (F.Refused e) = e .counts
+
+module _ (lim : Limits) (ts : List ℕ) (n : Counts) (t : Tables) where
+  -- all tests are passed, or one refuses
+  tests : {A : Type 0} → (Acceptable lim ts n t → A) → ((r : Reason) → flipsOf lim ts n t ≡ flipsRefused n t r → A) → A
+  unfolding flipsOf
+  tests pass refuse =
+      by-cases (areFull lim t)
+      (λ a. by-cases (ltb (lim .list) (length ts)) (λ b. refuse LongList (rw (a, b) refl))
+      (λ b. by-cases (agree lim n t)
+      (λ d. by-cases (all (λ v. ltb v (n .terms)) ts)
+      (λ e. pass (record { full = a; short = ltb-false (lim .list) (length ts) b; agrees = d; known = e }))
+      (λ e. refuse UnknownTerm (rw (a, b, d, e) refl)))
+      (λ d. refuse Disagreement (rw (a, b, d) refl))))
+      (λ a. refuse ShortTable (rw a refl))
+
+  passed : Acceptable lim ts n t → flipsOf lim ts n t ≡ flipsLeave lim t (flipped ts (stateIn n t))
+  unfolding flipsOf
+  passed h = rw (h .full, le-ltb (lim .list) (length ts) (h .short), h .agrees, h .known) refl
+
+  module _ (h : Acceptable lim ts n t) where
+    applied : flipsOf lim ts n t .answer ≡ F.Applied (countsOf (flipped ts (stateIn n t)))
+    unfolding flipsLeave
+    applied = ap (λ (l : Leaves Flipped). l .answer) (passed h)
+
+    left : flipsOf lim ts n t .tables ≡ holding lim (flipped ts (stateIn n t)) t
+    unfolding flipsLeave
+    left = ap (λ (l : Leaves Flipped). l .tables) (passed h)
+
+    -- the state that was flipped, and the state that stands
+    before-valid : Valid lim (stateIn n t)
+    before-valid = agree-valid lim n t (h .agrees) (h .full)
+
+    before-counts : countsOf (stateIn n t) ≡ n
+    before-counts = agree-counts lim n t (h .agrees) (h .full)
+
+    names-known : all (λ v. ltb v (length (stateIn n t .file .names))) ts ≡ true
+    unfolding countsOf
+    names-known = ap (λ (m : Counts). all (λ v. ltb v (m .terms)) ts) before-counts ∙ h .known
+
+    after-valid : Valid lim (flipped ts (stateIn n t))
+    after-valid = flipped-valid lim ts (stateIn n t) before-valid names-known
+
+  -- accepted exactly if all that is asked of a call holds
+  pub accepted-exactly : ((m : Counts) × (flipsOf lim ts n t .answer ≡ F.Applied m)) ↔ Acceptable lim ts n t
+  accepted-exactly = (λ a. was-acceptable (a .0) (a .1), λ h. (countsOf (flipped ts (stateIn n t)), applied h))
+    where
+      was-acceptable : (m : Counts) → flipsOf lim ts n t .answer ≡ F.Applied m → Acceptable lim ts n t
+      was-acceptable m e = tests (λ h. h) (λ r f. absurd (false≢true (ap (λ (l : Leaves Flipped). isApplied (l .answer)) (sym f) ∙ ap isApplied e)))
+
+  -- a refused list leaves all as it was
+  pub flips-refused : (e : Refusal) → flipsOf lim ts n t .answer ≡ F.Refused e → (flipsOf lim ts n t .tables ≡ t) × (e .counts ≡ n)
+  flips-refused e q =
+      tests (λ h. absurd (true≢false (ap isApplied (sym (applied h) ∙ q))))
+      (λ r f. (ap (λ (l : Leaves Flipped). l .tables) f, ap countsIn (sym q) ∙ ap (λ (l : Leaves Flipped). countsIn (l .answer)) f))
+
+  -- every list is applied or refused
+  pub flips-either : ((m : Counts) × (flipsOf lim ts n t .answer ≡ F.Applied m)) ⊎ ((e : Refusal) × (flipsOf lim ts n t .answer ≡ F.Refused e))
+  flips-either = tests (λ h. inl (countsOf (flipped ts (stateIn n t)), applied h)) (λ r f. inr (record { reason = r; counts = n }, ap (λ (l : Leaves Flipped). l .answer) f))
+
+-- ---- what an accepted call leaves
+
+-- a list that names each term equally often is as acceptable
+reordered : (lim : Limits) (ts us : List ℕ) (n : Counts) (t : Tables) → ((v : ℕ) → times v ts ≡ times v us) → Acceptable lim ts n t → Acceptable lim us n t
+reordered lim ts us n t same h =
+    record {
+      full = h .full;
+      short = omega (arith, reordered-length ts us same, h .short);
+      agrees = h .agrees;
+      known = reordered-all ts us same (λ v. ltb v (n .terms)) (h .known);
+    }
+
+acceptable-leaves : (lim : Limits) (ts : List ℕ) (n : Counts) (t : Tables) → Acceptable lim ts n t → Accepted lim ts n (countsOf (flipped ts (stateIn n t))) t
+unfolding countsOf
+acceptable-leaves lim ts n t h =
+    record {
+      state = ap (stateIn (countsOf after)) out ∙ holding-back lim after t valid;
+      whole = out;
+      beyond = ap (each drop (fullSizes lim)) out ∙ holding-beyond lim after t valid;
+      after = demanded;
+      terms = ap (λ (f : File). length (f .names)) file ∙ ap (λ (m : Counts). m .terms) (before-counts lim ts n t h);
+      clauses = ap (λ (f : File). length (f .clauses)) file ∙ ap (λ (m : Counts). m .clauses) (before-counts lim ts n t h);
+      literals = ap (λ (f : File). total length (f .clauses)) file ∙ ap (λ (m : Counts). m .literals) (before-counts lim ts n t h);
+      full = ap (areFull lim) out ∙ holding-full lim after t valid (h .full);
+      agrees = ap (agree lim (countsOf after)) out ∙ holding-agrees lim after t valid;
+      any-order = λ us same.
+          let k = reordered lim ts us n t same h in
+          let o = demanded .any-order us same in
+          let w = after-valid lim us n t k in (
+            applied lim us n t k ∙ ap F.Applied (sym (same-counts lim after (flipped us (stateIn n t)) t valid w o)),
+            subst₂ (λ a b. SameButList (length (after .uncovered)) a b) (sym out) (sym (left lim us n t k))
+                (same-tables lim after (flipped us (stateIn n t)) t valid w o),
+          );
+    }
+  where
+    after : State
+    after = flipped ts (stateIn n t)
+
+    out : flipsOf lim ts n t .tables ≡ holding lim after t
+    out = left lim ts n t h
+
+    valid : Valid lim after
+    valid = after-valid lim ts n t h
+
+    file : after .file ≡ stateIn n t .file
+    file = flipped-file ts (stateIn n t)
+
+    demanded : AfterFlips ts (stateIn n t)
+    demanded = demand-three lim ts (stateIn n t) (before-valid lim ts n t h) (names-known lim ts n t h)
+
+-- demand 3
+pub flips-accepted : (lim : Limits) (ts : List ℕ) (n m : Counts) (t : Tables) → flipsOf lim ts n t .answer ≡ F.Applied m → Accepted lim ts n m t
+flips-accepted lim ts n m t e =
+    let h = accepted-exactly lim ts n t .0 (m, e) in
+    subst (λ (k : Counts). Accepted lim ts n k t) (ap countsIn (sym (applied lim ts n t h) ∙ e)) (acceptable-leaves lim ts n t h)
+
+-- "Take one accepted clause file, any starting values and any list of up to 65,536 flips of known terms": such a call is accepted
+pub file-acceptable : (lim : Limits) (text : List ℕ) (f : File) (vs ts : List ℕ) (t : Tables) → readText lim text ≡ accepted f
+    → length vs ≡ length (f .names) → Bits vs → length ts ≤ lim .list → all (λ v. ltb v (length (f .names))) ts ≡ true → areFull lim t ≡ true
+    → Acceptable lim ts (countsOf (afresh f vs)) (holding lim (afresh f vs) t)
+unfolding countsOf afresh
+file-acceptable lim text f vs ts t e one-each bits short known full =
+    record {
+      full = holding-full lim (afresh f vs) t valid full;
+      short = short;
+      agrees = holding-agrees lim (afresh f vs) t valid;
+      known = known;
+    }
+  where
+    valid : Valid lim (afresh f vs)
+    valid = record { proper = reading-proper lim text f e; one-each = one-each; bits = bits; listed = afresh-listed f vs }
