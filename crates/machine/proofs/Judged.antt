@@ -6,14 +6,12 @@ use mathlib.Core.List.{List}
 use native.Mathlib.Omega.{arith}
 use lib.ListN.{length, getD, take}
 use lib.Seq.{length-take-le}
-use lib.Dec.{eqb, leb}
-use borrow.Author.Tests.{leb-true}
+use lib.Dec.{eqb}
 use Rattle.words.specs.Words.{wordCount}
 use Rattle.written.specs.declared.Counts.{Counts}
-use Rattle.written.specs.Lists.{same}
 use Rattle.written.specs.Limits.{Limits}
 use Rattle.written.specs.Clauses.{uncoveredIn}
-use Rattle.written.specs.Tables.{Tables, Lent, each, every, sizes, fullSizes, areFull, wordsOf, turnedRound, inUse}
+use Rattle.written.specs.Tables.{Tables, each, every, sizes, fullSizes, areFull, turnedRound, inUse}
 use Rattle.written.specs.Agreement.{fileIn, stateIn, countsFit, namesAgree, startsAgree, literalsAgree, occurrencesAgree, countsAgree, listAgrees, restIsZero, holdsTogether, agree}
 use Rattle.laws.proofs.Basics.{by-cases, both-first, both-second}
 use Rattle.laws.proofs.Each.{Names, Values, Starts, Literals, OccurrenceStarts, Occurrences, Trues, Breaks, Uncovered, Places}

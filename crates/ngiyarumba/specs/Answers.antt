@@ -2,7 +2,7 @@
 use Prim.Native.Nat.{ℕ}
 use Rattle.written.specs.declared.Counts.{Counts}
 use Rattle.written.specs.declared.Flipped.{Flipped}
-use Rattle.written.specs.Outcomes.{Values, flipValues}
+use Rattle.written.specs.Outcomes.{flipValues}
 use Rattle.ngiyarumba.specs.declared.FlipAnswer.{FlipAnswer}
 
 -- four counts, given one by one

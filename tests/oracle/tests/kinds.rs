@@ -204,6 +204,10 @@ fn each_kind_of_damage_does_what_it_says() {
     for both in ["EntryInUse", "EntriesSwapped", "ValueTurned"] {
         assert_eq!(verdicts[both].len(), 2, "{both}");
     }
+    for (kind, met) in verdicts {
+        let none = ["None", "NameOther", "ListReordered", "Longer"].contains(&kind.as_str());
+        assert_eq!(met.contains(&false), !none, "{kind}");
+    }
 }
 
 fn assert_verdict(kind: DamageKind, agrees: bool, unchanged: bool) {
@@ -211,8 +215,12 @@ fn assert_verdict(kind: DamageKind, agrees: bool, unchanged: bool) {
     match kind {
         None | NameOther | ListReordered | Longer => assert!(agrees, "{kind:?}"),
         OneShorter => assert!(!agrees, "{kind:?}"),
+        ClauseEmpty | NoClause => assert!(!agrees, "{kind:?}"),
         EntryPastUse | SpareValueBit | Count | NameRepeated | NameInvalid | ListReorderedAlone
-        | AllZeros | Rubbish | SmallNumbers => assert_eq!(agrees, unchanged, "{kind:?}"),
+        | TermTwice | TermBothWays | OccurrencesFalling | UncoveredLeftOut | CoveredListed
+        | ListedTwice | AllZeros | Rubbish | SmallNumbers => {
+            assert_eq!(agrees, unchanged, "{kind:?}");
+        }
         EntryInUse | EntryByOne | EntriesSwapped | ValueTurned => assert!(agrees || !unchanged),
     }
 }

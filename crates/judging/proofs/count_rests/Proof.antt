@@ -1,5 +1,5 @@
 -- `judging::count_rests` meets its contract: each way out has the tests that lead there. Assumes nothing.
-use mathlib.Core.Path.{refl, _∙_}
+use mathlib.Core.Path.{refl}
 use borrow.Author.Needs.{needs}
 use Rattle.machine.specs.Judging.{countRests}
 use Rattle.machine.proofs.Tests.{said-no, said-yes}

@@ -1,5 +1,5 @@
 -- `lists::verdict` meets its contract: each way out has the tests that lead there. Assumes nothing.
-use mathlib.Core.Path.{refl, sym, _∙_}
+use mathlib.Core.Path.{refl}
 use borrow.Author.Needs.{needs}
 use borrow.Author.Tests.{lt-ltb, le-ltb}
 use Rattle.machine.proofs.Tests.{said-no, said-yes}

@@ -3,6 +3,7 @@
 use super::lent::{fill_with_rubbish, lengthen, rubbish_entry, shorten};
 use super::names::name_of_length;
 use super::random::Random;
+use super::unsound;
 use crate::limits::{Limits, TERMS_IN_A_WORD};
 use crate::reader::{pack, LONGEST_NAME};
 use crate::tables::{Counts, Tables};
@@ -29,6 +30,19 @@ pub enum DamageKind {
     ListReordered,
     /// The list in another order, without its places.
     ListReorderedAlone,
+    /// A clause names a term twice, or both ways; all else is laid out for it.
+    TermTwice,
+    TermBothWays,
+    /// A clause of no literal, or no clause; all else is laid out for it.
+    ClauseEmpty,
+    NoClause,
+    /// The clauses of one literal fall.
+    OccurrencesFalling,
+    /// The list has too few or too many, and its count and places are those of its entries.
+    UncoveredLeftOut,
+    CoveredListed,
+    /// The list has one clause in the place of another too.
+    ListedTwice,
     AllZeros,
     Rubbish,
     SmallNumbers,
@@ -38,7 +52,7 @@ pub enum DamageKind {
 }
 
 impl DamageKind {
-    pub const ALL: [DamageKind; 18] = [
+    pub const ALL: [DamageKind; 26] = [
         DamageKind::None,
         DamageKind::EntryInUse,
         DamageKind::EntryPastUse,
@@ -52,6 +66,14 @@ impl DamageKind {
         DamageKind::NameOther,
         DamageKind::ListReordered,
         DamageKind::ListReorderedAlone,
+        DamageKind::TermTwice,
+        DamageKind::TermBothWays,
+        DamageKind::ClauseEmpty,
+        DamageKind::NoClause,
+        DamageKind::OccurrencesFalling,
+        DamageKind::UncoveredLeftOut,
+        DamageKind::CoveredListed,
+        DamageKind::ListedTwice,
         DamageKind::AllZeros,
         DamageKind::Rubbish,
         DamageKind::SmallNumbers,
@@ -88,6 +110,14 @@ pub fn damage_of(
         DamageKind::NameOther => put_name(counts, tables, other_name, random),
         DamageKind::ListReordered => reorder_list(counts, tables, true, random),
         DamageKind::ListReorderedAlone => reorder_list(counts, tables, false, random),
+        DamageKind::TermTwice => unsound::repeat_term(false, limits, counts, tables, random),
+        DamageKind::TermBothWays => unsound::repeat_term(true, limits, counts, tables, random),
+        DamageKind::ClauseEmpty => unsound::empty_a_clause(limits, counts, tables, random),
+        DamageKind::NoClause => unsound::remove_every_clause(limits, counts, tables),
+        DamageKind::OccurrencesFalling => unsound::turn_a_run_round(counts, tables, random),
+        DamageKind::UncoveredLeftOut => unsound::leave_out_uncovered(counts, tables),
+        DamageKind::CoveredListed => unsound::list_covered(counts, tables, random),
+        DamageKind::ListedTwice => unsound::list_twice(counts, tables, random),
         DamageKind::AllZeros => tables.clear(limits),
         DamageKind::Rubbish => fill_with_rubbish(tables, limits, random),
         DamageKind::SmallNumbers => fill_with_small_numbers(tables, random),
@@ -105,7 +135,7 @@ fn some_entry_in_use(counts: &Counts, random: &mut Random) -> (usize, usize) {
 }
 
 /// A number that is not 0: small, of one bit, or of any bits.
-fn some_difference(bits: u32, random: &mut Random) -> u64 {
+pub fn some_difference(bits: u32, random: &mut Random) -> u64 {
     match random.below(3) {
         0 => random.between(1, 3) as u64,
         1 => 1 << random.below(bits as usize),

@@ -8,6 +8,7 @@ pub enum FlipListKind {
     Empty,
     One,
     Few,
+    Hundreds,
     Thousands,
     /// One term again and again.
     OneTermOften,
@@ -21,10 +22,11 @@ pub enum FlipListKind {
 }
 
 impl FlipListKind {
-    pub const ALL: [FlipListKind; 10] = [
+    pub const ALL: [FlipListKind; 11] = [
         FlipListKind::Empty,
         FlipListKind::One,
         FlipListKind::Few,
+        FlipListKind::Hundreds,
         FlipListKind::Thousands,
         FlipListKind::OneTermOften,
         FlipListKind::EachTermOnce,
@@ -35,10 +37,11 @@ impl FlipListKind {
     ];
 
     /// The kinds that are accepted where the tables agree.
-    pub const ACCEPTED: [FlipListKind; 7] = [
+    pub const ACCEPTED: [FlipListKind; 8] = [
         FlipListKind::Empty,
         FlipListKind::One,
         FlipListKind::Few,
+        FlipListKind::Hundreds,
         FlipListKind::Thousands,
         FlipListKind::OneTermOften,
         FlipListKind::EachTermOnce,
@@ -65,10 +68,8 @@ pub fn flip_list_of(
         FlipListKind::Empty => Vec::new(),
         FlipListKind::One => known_terms(1, terms, random),
         FlipListKind::Few | FlipListKind::UnknownTerm => few(kind, limits, terms, random),
-        FlipListKind::Thousands => {
-            let length = random.between(1_000, 4_000).min(limits.list);
-            known_terms(length, terms, random)
-        }
+        FlipListKind::Hundreds => between(100, 900, limits, terms, random),
+        FlipListKind::Thousands => between(1_000, 4_000, limits, terms, random),
         FlipListKind::OneTermOften => {
             let length = random.between(1, 9).min(limits.list);
             vec![some_term(terms, random); length]
@@ -98,6 +99,17 @@ fn some_term(terms: u64, random: &mut Random) -> u64 {
 
 fn known_terms(length: usize, terms: u64, random: &mut Random) -> Vec<u64> {
     (0..length).map(|_| some_term(terms, random)).collect()
+}
+
+fn between(
+    least: usize,
+    most: usize,
+    limits: &Limits,
+    terms: u64,
+    random: &mut Random,
+) -> Vec<u64> {
+    let length = random.between(least, most).min(limits.list);
+    known_terms(length, terms, random)
 }
 
 fn each_term_once(limits: &Limits, terms: u64, random: &mut Random) -> Vec<u64> {

@@ -96,15 +96,27 @@ fn empty_some(tables: &mut Tables, random: &mut Random) {
 
 /// Full-size tables that agree: a reading's, with any values flipped to.
 pub fn standing_tables(limits: &Limits, random: &mut Random) -> (Counts, Tables) {
-    let mut tables = Tables::zeros(limits);
     loop {
         let kind = random.pick(&ValidKind::ALL);
-        let answer = read(limits, &valid_text_of(kind, random), &mut tables);
-        if answer.result == 1 {
-            let counts = flip_some(limits, answer.counts, &mut tables, random);
-            return (counts, tables);
+        let text = valid_text_of(kind, random);
+        if let Some(standing) = standing_tables_of(&text, limits, random) {
+            return standing;
         }
     }
+}
+
+/// The same of one text, where a reading accepts it.
+pub fn standing_tables_of(
+    text: &[u8],
+    limits: &Limits,
+    random: &mut Random,
+) -> Option<(Counts, Tables)> {
+    let mut tables = Tables::zeros(limits);
+    let answer = read(limits, text, &mut tables);
+    (answer.result == 1).then(|| {
+        let counts = flip_some(limits, answer.counts, &mut tables, random);
+        (counts, tables)
+    })
 }
 
 fn flip_some(limits: &Limits, counts: Counts, tables: &mut Tables, random: &mut Random) -> Counts {

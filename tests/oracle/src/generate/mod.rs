@@ -15,15 +15,16 @@ pub mod orders;
 pub mod random;
 pub mod sheets;
 pub mod texts;
+pub mod unsound;
 pub mod valid_texts;
 
 pub use cases::{flip_case, read_case, run_case, walk_case};
 pub use cases::{FlipCase, ReadCase, RunCase, WalkCase};
-pub use damage::{damage, damage_of, DamageKind};
+pub use damage::{damage, damage_of, some_difference, DamageKind};
 pub use draws::{draw_case, reader_script, DrawCase};
 pub use flip_lists::{flip_list, flip_list_of, FlipListKind};
 pub use inputs::{input, input_of, input_within, InputKind};
-pub use lent::{lent_tables, lent_tables_of, standing_tables, LentKind};
+pub use lent::{lent_tables, lent_tables_of, standing_tables, standing_tables_of, LentKind};
 pub use orders::{order, order_in_range, order_of, OrderKind};
 pub use random::Random;
 pub use sheets::{good_sheet, sheet, sheet_of, sheet_of_order, SheetKind};

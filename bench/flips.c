@@ -1,0 +1,229 @@
+/*
+ * Flips through ngi_flip and through the plain C version, on random files of three literals to a clause.
+ *
+ *   flips check TERMS CLAUSES             gives both the same lists; the status is 0 where answers and tables are the same throughout
+ *   flips time TERMS CLAUSES              flips per second, and microseconds for an empty list: ngi_flip's, then the plain version's
+ *   flips run TERMS CLAUSES SIDE FLIPS    one list of at most 4,096 flips by one side, ngi or plain, so that instructions can be counted
+ */
+#include <stdint.h>
+#include <stdio.h>
+#include <stdlib.h>
+#include <string.h>
+#include <time.h>
+
+#include "ngiyarumba.h"
+#include "plain.h"
+
+enum { WIDTH = 3, LISTS_CHECKED = 8, ROUNDS = 5, LISTS_TIMED = 4, EMPTY_LISTS_TIMED = 64, LONGEST_RUN = 4096 };
+
+struct tables {
+    uint32_t terms, clauses, literals, uncovered;
+    uint64_t names[NGI_NAMES_SIZE];
+    uint32_t values[NGI_VALUES_SIZE];
+    uint16_t starts[NGI_STARTS_SIZE];
+    uint16_t literals_table[NGI_LITERALS_SIZE];
+    uint16_t occurrence_starts[NGI_OCCURRENCE_STARTS_SIZE];
+    uint16_t occurrences[NGI_OCCURRENCES_SIZE];
+    uint16_t true_counts[NGI_TRUE_COUNTS_SIZE];
+    uint16_t break_counts[NGI_BREAK_COUNTS_SIZE];
+    uint16_t uncovered_list[NGI_UNCOVERED_LIST_SIZE];
+    uint16_t places[NGI_PLACES_SIZE];
+};
+
+typedef __typeof__(ngi_flip) flip_function;
+
+static struct tables one, other;
+static uint16_t list[NGI_LIST];
+
+/* --- random files and lists --- */
+
+/* Knuth's 64-bit linear congruence; the low bits, which are the least random, are left out. */
+static uint32_t random_below(uint32_t bound)
+{
+    static uint64_t state = 1;
+    state = state * 6364136223846793005u + 1442695040888963407u;
+    return (uint32_t)(state >> 33) % bound;
+}
+
+/* Names of two bytes. */
+static void name_terms(struct tables *t)
+{
+    for (uint32_t term = 0; term < t->terms; term++)
+        t->names[term] = (33 + term % 93) | (33 + term / 93) << 8;
+}
+
+/* Whether a term stands in the clause that starts here, before this place. */
+static int stands(const struct tables *t, uint32_t start, uint32_t place, uint32_t term)
+{
+    for (uint32_t at = start; at < place; at++)
+        if (t->literals_table[at] / 2 == term)
+            return 1;
+    return 0;
+}
+
+static void draw_clauses(struct tables *t)
+{
+    for (uint32_t clause = 0; clause < t->clauses; clause++) {
+        uint32_t start = clause * WIDTH;
+        for (uint32_t at = start; at < start + WIDTH; at++) {
+            uint32_t term = random_below(t->terms);
+            while (stands(t, start, at, term))
+                term = random_below(t->terms);
+            t->literals_table[at] = (uint16_t)(2 * term + random_below(2));
+        }
+        t->starts[clause + 1] = (uint16_t)(start + WIDTH);
+    }
+    t->literals = t->clauses * WIDTH;
+}
+
+static void draw_values(struct tables *t)
+{
+    for (uint32_t term = 0; term < t->terms; term++)
+        t->values[term / 32] |= random_below(2) << term % 32;
+}
+
+/* Clause numbers rise within a literal, since the clauses are gone through in order. */
+static void place_occurrences(struct tables *t)
+{
+    static uint16_t next[NGI_OCCURRENCE_STARTS_SIZE];
+    for (uint32_t at = 0; at < t->literals; at++)
+        t->occurrence_starts[t->literals_table[at] + 1]++;
+    for (uint32_t literal = 0; literal < 2 * t->terms; literal++)
+        t->occurrence_starts[literal + 1] += t->occurrence_starts[literal];
+    memcpy(next, t->occurrence_starts, sizeof next);
+    for (uint32_t at = 0; at < t->literals; at++)
+        t->occurrences[next[t->literals_table[at]]++] = (uint16_t)(at / WIDTH);
+}
+
+static void count_afresh(struct tables *t)
+{
+    for (uint32_t clause = 0; clause < t->clauses; clause++) {
+        uint32_t last = 0;
+        for (uint32_t at = clause * WIDTH; at < (clause + 1) * WIDTH; at++) {
+            uint32_t literal = t->literals_table[at], term = literal / 2;
+            if ((t->values[term / 32] >> term % 32 & 1) != (literal & 1)) {
+                t->true_counts[clause]++;
+                last = term;
+            }
+        }
+        if (t->true_counts[clause] == 1)
+            t->break_counts[last]++;
+        if (t->true_counts[clause] == 0) {
+            t->places[clause] = (uint16_t)t->uncovered;
+            t->uncovered_list[t->uncovered++] = (uint16_t)clause;
+        }
+    }
+}
+
+static void make_file(struct tables *t, uint32_t terms, uint32_t clauses)
+{
+    t->terms = terms;
+    t->clauses = clauses;
+    name_terms(t);
+    draw_clauses(t);
+    draw_values(t);
+    place_occurrences(t);
+    count_afresh(t);
+}
+
+static void draw_list(uint32_t terms, size_t length)
+{
+    for (size_t at = 0; at < length; at++)
+        list[at] = (uint16_t)random_below(terms);
+}
+
+/* --- calls --- */
+
+#define LENT(table) (table), sizeof(table) / sizeof *(table)
+
+/* The first flips of the list; a refusal ends the program. */
+static void apply(flip_function *flip, struct tables *t, size_t flips)
+{
+    ngi_flip_answer answer = flip(list, flips, t->terms, t->clauses, t->literals, t->uncovered, LENT(t->names), LENT(t->values),
+                                  LENT(t->starts), LENT(t->literals_table), LENT(t->occurrence_starts), LENT(t->occurrences),
+                                  LENT(t->true_counts), LENT(t->break_counts), LENT(t->uncovered_list), LENT(t->places));
+    if (answer.result != 1) {
+        printf("refused, reason %u\n", (unsigned)answer.reason);
+        exit(1);
+    }
+    t->terms = answer.terms;
+    t->clauses = answer.clauses;
+    t->literals = answer.literals;
+    t->uncovered = answer.uncovered;
+}
+
+static int check(void)
+{
+    memcpy(&other, &one, sizeof one);
+    for (int lists = 0; lists < LISTS_CHECKED; lists++) {
+        draw_list(one.terms, NGI_LIST);
+        apply(ngi_flip, &one, NGI_LIST);
+        apply(plain_flip, &other, NGI_LIST);
+        if (memcmp(&one, &other, sizeof one) != 0) {
+            printf("the two leave different tables\n");
+            return 1;
+        }
+    }
+    return 0;
+}
+
+static double seconds(void)
+{
+    struct timespec now;
+    clock_gettime(CLOCK_MONOTONIC, &now);
+    return (double)now.tv_sec + 1e-9 * (double)now.tv_nsec;
+}
+
+/* Seconds for one list, the least of the rounds so far. */
+static void time_lists(flip_function *flip, struct tables *t, size_t flips, int lists, double *least)
+{
+    double start = seconds();
+    for (int done = 0; done < lists; done++)
+        apply(flip, t, flips);
+    double each = (seconds() - start) / lists;
+    if (*least == 0 || each < *least)
+        *least = each;
+}
+
+/* The two take turns, so that what slows the machine slows both. */
+static int time_both(void)
+{
+    double full[2] = {0}, empty[2] = {0};
+    memcpy(&other, &one, sizeof one);
+    draw_list(one.terms, NGI_LIST);
+    for (int round = 0; round < ROUNDS; round++) {
+        time_lists(ngi_flip, &one, NGI_LIST, LISTS_TIMED, &full[0]);
+        time_lists(plain_flip, &other, NGI_LIST, LISTS_TIMED, &full[1]);
+        time_lists(ngi_flip, &one, 0, EMPTY_LISTS_TIMED, &empty[0]);
+        time_lists(plain_flip, &other, 0, EMPTY_LISTS_TIMED, &empty[1]);
+    }
+    printf("%.0f %.0f %.1f %.1f\n", NGI_LIST / full[0], NGI_LIST / full[1], 1e6 * empty[0], 1e6 * empty[1]);
+    return 0;
+}
+
+/* The list drawn has the same length for any number of flips, so that nothing but the flips differs. */
+static int run(const char *side, uint32_t flips)
+{
+    draw_list(one.terms, LONGEST_RUN);
+    apply(strcmp(side, "ngi") == 0 ? ngi_flip : plain_flip, &one, flips);
+    return 0;
+}
+
+static uint32_t number(const char *word)
+{
+    return (uint32_t)strtol(word, NULL, 10);
+}
+
+int main(int count, char **words)
+{
+    if (count >= 4)
+        make_file(&one, number(words[2]), number(words[3]));
+    if (count == 4 && strcmp(words[1], "check") == 0)
+        return check();
+    if (count == 4 && strcmp(words[1], "time") == 0)
+        return time_both();
+    if (count == 6 && strcmp(words[1], "run") == 0 && number(words[5]) <= LONGEST_RUN)
+        return run(words[4], number(words[5]));
+    printf("usage: flips check|time TERMS CLAUSES, or flips run TERMS CLAUSES ngi|plain FLIPS\n");
+    return 2;
+}

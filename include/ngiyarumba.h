@@ -1,0 +1,75 @@
+/* Ngiyarumba: what a C program may call of the static library libngiyarumba.a. */
+#ifndef NGIYARUMBA_H
+#define NGIYARUMBA_H
+
+#include <stddef.h>
+#include <stdint.h>
+
+#ifdef __cplusplus
+extern "C" {
+#endif
+
+/* The most that may be held. */
+#define NGI_TERMS 2048
+#define NGI_CLAUSES 8192
+#define NGI_LITERALS 16384
+
+/* The most flips in one list. */
+#define NGI_LIST 65536
+
+/*
+ * The ten tables that a caller lends, in the order in which every function takes them, each as a pointer and a length in entries.
+ * Terms and clauses are numbered from 0; term k's literal is 2k, its negation 2k + 1. Entries past those in use are 0 up to the full size.
+ * A table may be longer than its full size: what lies beyond is never read or written. No pointer is null, a table of length 0 has one too,
+ * and what is lent in one call does not overlap.
+ */
+#define NGI_NAMES_SIZE NGI_TERMS                       /* names by term: byte 0 lowest, unused bytes 0 */
+#define NGI_VALUES_SIZE (NGI_TERMS / 32)               /* values: 32 terms to a word, low bit first */
+#define NGI_STARTS_SIZE (NGI_CLAUSES + 1)              /* where each clause starts in the literals, one past the last included */
+#define NGI_LITERALS_SIZE NGI_LITERALS                 /* literals, clause by clause */
+#define NGI_OCCURRENCE_STARTS_SIZE (2 * NGI_TERMS + 1) /* where each literal starts in the occurrences, one past the last included */
+#define NGI_OCCURRENCES_SIZE NGI_LITERALS              /* clauses by literal, rising within a literal */
+#define NGI_TRUE_COUNTS_SIZE NGI_CLAUSES               /* true literals by clause */
+#define NGI_BREAK_COUNTS_SIZE NGI_TERMS                /* by term: the clauses whose only true literal is that term's */
+#define NGI_UNCOVERED_LIST_SIZE NGI_CLAUSES            /* the clauses with no true literal */
+#define NGI_PLACES_SIZE NGI_CLAUSES                    /* by clause: its place in that list, from 0; 0 if covered */
+
+/* Why a call was refused. */
+enum {
+    NGI_NO_REASON = 0,
+    NGI_TABLE_TOO_SHORT = 1,  /* a lent table is shorter than its full size */
+    NGI_TABLES_DISAGREE = 12, /* no clause stands, or some count or entry of a table is not what the others say */
+    NGI_UNKNOWN_TERM = 13,    /* a flip list names a term not below the term count */
+    NGI_LIST_TOO_LONG = 14    /* a flip list longer than NGI_LIST */
+};
+
+/* The answer to a flip list. */
+typedef struct {
+    uint32_t result; /* 1 applied, 0 refused */
+    uint32_t reason; /* NGI_NO_REASON where it was applied */
+    uint32_t terms, clauses, literals, uncovered; /* the four counts now; where it was refused, those given */
+} ngi_flip_answer;
+
+/*
+ * Turns the value of each term that the list names, in its order, and brings true counts, break counts, uncovered list and places up to
+ * date; the other tables are only read. The empty list is applied too. The whole list is looked at before any flip: a list is applied
+ * whole or refused whole, and a refused one leaves every table as it was. Reasons are tested in the order 1, 14, 12, 13.
+ */
+ngi_flip_answer ngi_flip(const uint16_t *list, size_t list_length,
+                         uint32_t terms, uint32_t clauses, uint32_t literals, uint32_t uncovered,
+                         const uint64_t *names, size_t names_length,
+                         uint32_t *values, size_t values_length,
+                         const uint16_t *starts, size_t starts_length,
+                         const uint16_t *literals_table, size_t literals_table_length,
+                         const uint16_t *occurrence_starts, size_t occurrence_starts_length,
+                         const uint16_t *occurrences, size_t occurrences_length,
+                         uint16_t *true_counts, size_t true_counts_length,
+                         uint16_t *break_counts, size_t break_counts_length,
+                         uint16_t *uncovered_list, size_t uncovered_list_length,
+                         uint16_t *places, size_t places_length);
+
+#ifdef __cplusplus
+}
+#endif
+
+#endif

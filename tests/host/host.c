@@ -1,0 +1,180 @@
+/*
+ * Calls the library for programs that cannot link it: each request on standard input is one call, its answer goes to standard output.
+ * Numbers are little-endian; a request begins with its opcode, and everything but table and list entries is 32 bits wide.
+ *
+ *   opcode  request                                                       answer
+ *   1 lend  the lengths of the ten tables, then the entries of each       none: the tables are kept for the calls that follow
+ *   2 flip  the list's length, its entries, four counts                   status, the six numbers of ngi_flip_answer, list, ten tables
+ *
+ * Guards stand before and after all that is lent. The status is 0 where every guard is as it was, else one more than the number of the
+ * first table that has lost one, or 11 for the list. The end of the input ends the program.
+ */
+#include <stdint.h>
+#include <stdlib.h>
+#include <unistd.h>
+
+#include "ngiyarumba.h"
+
+enum { LEND = 1, FLIP = 2 };
+enum { TABLES = 10, GUARD = 64 };
+enum { INPUT_CUT = 1, OUTPUT_CLOSED = 2, NO_MEMORY = 3, UNKNOWN_OPCODE = 4 };
+
+/* Entries to lend, with GUARD bytes before and after them. */
+struct lent {
+    unsigned char *block;
+    size_t count, width;
+};
+
+static struct lent tables[TABLES] = {{0, 0, 8}, {0, 0, 4}, {0, 0, 2}, {0, 0, 2}, {0, 0, 2},
+                                     {0, 0, 2}, {0, 0, 2}, {0, 0, 2}, {0, 0, 2}, {0, 0, 2}};
+static struct lent list = {0, 0, 2};
+
+/* --- input and output --- */
+
+/* False where the input has ended before the first byte. */
+static int take_or_end(void *memory, size_t size)
+{
+    for (size_t got = 0; got < size;) {
+        ssize_t more = read(0, (unsigned char *)memory + got, size - got);
+        if (more <= 0 && got == 0)
+            return 0;
+        if (more <= 0)
+            exit(INPUT_CUT);
+        got += (size_t)more;
+    }
+    return 1;
+}
+
+static void take(void *memory, size_t size)
+{
+    if (!take_or_end(memory, size))
+        exit(INPUT_CUT);
+}
+
+static uint32_t take_number(void)
+{
+    uint32_t number;
+    take(&number, sizeof number);
+    return number;
+}
+
+static void give(const void *memory, size_t size)
+{
+    for (size_t given = 0; given < size;) {
+        ssize_t more = write(1, (const unsigned char *)memory + given, size - given);
+        if (more <= 0)
+            exit(OUTPUT_CLOSED);
+        given += (size_t)more;
+    }
+}
+
+/* --- what is lent --- */
+
+static void *entries(const struct lent *lent)
+{
+    return lent->block + GUARD;
+}
+
+static unsigned char *after(const struct lent *lent)
+{
+    return lent->block + GUARD + lent->count * lent->width;
+}
+
+static unsigned char guard_byte(size_t at)
+{
+    return (unsigned char)(0xa5 ^ at);
+}
+
+static void set_guards(struct lent *lent)
+{
+    for (size_t at = 0; at < GUARD; at++)
+        lent->block[at] = after(lent)[at] = guard_byte(at);
+}
+
+static int guards_stand(const struct lent *lent)
+{
+    for (size_t at = 0; at < GUARD; at++)
+        if (lent->block[at] != guard_byte(at) || after(lent)[at] != guard_byte(at))
+            return 0;
+    return 1;
+}
+
+/* Makes room for this many entries in place of those before. */
+static void renew(struct lent *lent, uint32_t count)
+{
+    free(lent->block);
+    lent->count = count;
+    lent->block = malloc(count * lent->width + 2 * GUARD);
+    if (lent->block == NULL)
+        exit(NO_MEMORY);
+    set_guards(lent);
+}
+
+static void take_entries(struct lent *lent)
+{
+    take(entries(lent), lent->count * lent->width);
+}
+
+static void give_entries(const struct lent *lent)
+{
+    give(entries(lent), lent->count * lent->width);
+}
+
+static uint32_t status(void)
+{
+    for (uint32_t table = 0; table < TABLES; table++)
+        if (!guards_stand(&tables[table]))
+            return table + 1;
+    return guards_stand(&list) ? 0 : TABLES + 1;
+}
+
+/* --- requests --- */
+
+static void lend(void)
+{
+    for (int table = 0; table < TABLES; table++)
+        renew(&tables[table], take_number());
+    for (int table = 0; table < TABLES; table++)
+        take_entries(&tables[table]);
+}
+
+static void give_answer(const void *answer, size_t size)
+{
+    uint32_t found = status();
+    give(&found, sizeof found);
+    give(answer, size);
+    give_entries(&list);
+    for (int table = 0; table < TABLES; table++)
+        give_entries(&tables[table]);
+}
+
+#define LENT(lent) entries(&(lent)), (lent).count
+
+static void flip(void)
+{
+    uint32_t counts[4];
+    renew(&list, take_number());
+    take_entries(&list);
+    take(counts, sizeof counts);
+    ngi_flip_answer answer =
+        ngi_flip(LENT(list), counts[0], counts[1], counts[2], counts[3], LENT(tables[0]), LENT(tables[1]), LENT(tables[2]), LENT(tables[3]),
+                 LENT(tables[4]), LENT(tables[5]), LENT(tables[6]), LENT(tables[7]), LENT(tables[8]), LENT(tables[9]));
+    give_answer(&answer, sizeof answer);
+}
+
+int main(void)
+{
+    uint32_t opcode;
+    while (take_or_end(&opcode, sizeof opcode))
+        switch (opcode) {
+        case LEND:
+            lend();
+            break;
+        case FLIP:
+            flip();
+            break;
+        default:
+            exit(UNKNOWN_OPCODE);
+        }
+    return 0;
+}

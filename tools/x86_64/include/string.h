@@ -1,0 +1,11 @@
+/* The functions of the C library that are called here. */
+#ifndef STRING_H
+#define STRING_H
+
+#include <stddef.h>
+
+int memcmp(const void *one, const void *other, size_t size);
+int strcmp(const char *one, const char *other);
+void *memcpy(void *to, const void *from, size_t size);
+
+#endif
