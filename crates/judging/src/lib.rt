@@ -2,11 +2,12 @@
 // document's order, and a function here may ask what the points before it have shown.
 ghost use mathlib.Core.Path.{_≡_};
 ghost use mathlib.Core.Bool.{true, _&&_};
+ghost use mathlib.Core.List.{[]};
 ghost use Prim.Native.Nat.{ℕ, _*_, _≤_, _<_};
 ghost use lib.ListN.{length, getD, take};
 ghost use lib.Dec.{eqb};
 ghost use Rattle.words.specs.Words.{wordCount};
-ghost use Rattle.written.specs.Lists.{all, below, has, differ, steps};
+ghost use Rattle.written.specs.Lists.{all, below, differ, steps};
 ghost use Rattle.written.specs.Limits.{narrow};
 ghost use Rattle.written.specs.Tables.{lent, fullSizes, areFull};
 ghost use Rattle.written.specs.Agreement.{partOf, isName, countsFit, agree};
@@ -16,6 +17,8 @@ ghost use Rattle.machine.specs.Judging.{clausesIn, valuesIn, startsRight, liter
 ghost use Rattle.machine.specs.Marks.{isFresh, markTerm, CanMark};
 ghost use Rattle.machine.specs.Matching.{cutsRight, standsAt, isNext, passOne, clauseNext, passClause, clausesNext, passClauses, runsPassed, CanPass, CanPassAll, CanMatch};
 ghost use Rattle.machine.specs.Tested.{countOf, onesIn, breakAt, breakTested, placeTested, InCounts, CanTrues, CanBreaks, CanList, CanCounts};
+ghost use Rattle.machine.specs.Slots.{Indexed};
+ghost use Rattle.names.specs.Finding.{homes};
 use written::Counts;
 
 // ---- full sizes and counts
@@ -127,37 +130,38 @@ fn names_valid(names: &[u64]) -> bool
     true
 }
 
-// A name stands among others.
-fn stands_in(name: u64, names: &[u64]) -> bool
-    ensures { λ r. ⌜ r ≡ has name (now (names .entry)) ⌝ }
-{
-    let mut i = 0;
-    while i < names.len() {
-        if name == names[i] {
-            return true;
-        }
-        i += 1;
-    }
-    false
-}
-
-// No name stands twice.
-fn names_differ(names: &[u64]) -> bool
+// No name stands twice, by slots that are empty at first.
+fn names_new(names: &[u64], slots: &mut [u16]) -> bool
+    requires { ⌜ (length (now names) ≤ narrow .terms) × Indexed homes (narrow .terms) [] (now slots) ⌝ }
     ensures { λ r. ⌜ r ≡ differ (now (names .entry)) ⌝ }
 {
     let mut i = 0;
     while i < names.len() {
-        if stands_in(names[i], &names[i + 1..]) {
-            return false;
+        match names::find(names, slots, i, names[i]) {
+            names::Found::At(_) => {
+                return false;
+            }
+            names::Found::New(s) => {
+                slots[s] = (i + 1) as u16;
+                i += 1;
+            }
         }
-        i += 1;
     }
     true
 }
 
+// No name stands twice.
+fn names_differ(names: &[u64]) -> bool
+    requires { ⌜ length (now names) ≤ narrow .terms ⌝ }
+    ensures { λ r. ⌜ r ≡ differ (now (names .entry)) ⌝ }
+{
+    let mut slots = [0u16; 8192];
+    names_new(names, &mut slots)
+}
+
 // The names in use are valid and differ.
 fn names_agree(n: Counts, names: &[u64]) -> bool
-    requires { ⌜ n .terms ≤ length (now names) ⌝ }
+    requires { ⌜ (n .terms ≤ narrow .terms) × (n .terms ≤ length (now names)) ⌝ }
     ensures { λ r. ⌜ r ≡ (all isName (take (n .terms) (now (names .entry))) && differ (take (n .terms) (now (names .entry)))) ⌝ }
 {
     let terms = n.terms as usize;

@@ -39,6 +39,7 @@ pub mod Passing
 pub mod Cuts
 pub mod Marks
 pub mod Names
+pub mod Slots
 pub mod Occurrences
 pub mod Matching
 pub mod Left

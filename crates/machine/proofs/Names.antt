@@ -1,18 +1,11 @@
--- A name tested byte by byte, and a list looked through entry by entry: what is left decides. Assumes nothing.
+-- A name tested byte by byte: what is left decides. Assumes nothing.
 use mathlib.Core.Path.{_≡_, refl}
-use mathlib.Core.Bool.{true, false, not, _&&_, _||_}
-use mathlib.Core.List.{List}
-use Prim.Native.Nat.{ℕ, zero, suc, _+_, _-_, _/_, _%_, _≤_, _<_}
-use native.Mathlib.Numerals.{add-one}
+use mathlib.Core.Bool.{true, _&&_}
+use Prim.Native.Nat.{ℕ, zero, suc, _-_, _/_, _%_, _≤_, _<_}
 use native.Mathlib.Omega.{arith}
-use lib.ListN.{length, getD, drop, drop-of-length-le}
-use lib.Seq.{drop-cons}
 use lib.Dec.{eqb}
 use borrow.Author.Tests.{eq-eqb, ne-eqb}
-use Rattle.written.specs.Lists.{has, differ}
 use Rattle.written.specs.Agreement.{isNameByte, nameBytes, isName}
-
--- ---- bytes
 
 pub name-begun : (x : ℕ) → (x ≡ 0 → ⊥) → nameBytes 8 x ≡ isName x
 unfolding isName
@@ -32,17 +25,3 @@ pub name-over : (k r : ℕ) → k ≤ 0 → nameBytes k r ≡ eqb r 0
 unfolding nameBytes
 name-over zero r h = refl
 name-over (suc k) r h = absurd (omega arith)
-
--- ---- entries
-
-pub has-left : (x : ℕ) (ys : List ℕ) (i : ℕ) → i < length ys → has x (drop i ys) ≡ (eqb x (getD ys i 0) || has x (drop (i + 1) ys))
-has-left x ys i l = rw (drop-cons ys i 0 l, add-one)
-
-pub has-none : (x : ℕ) (ys : List ℕ) (i : ℕ) → length ys ≤ i → has x (drop i ys) ≡ false
-has-none x ys i l = rw (drop-of-length-le ys l)
-
-pub differ-left : (ys : List ℕ) (i : ℕ) → i < length ys → differ (drop i ys) ≡ (not (has (getD ys i 0) (drop (i + 1) ys)) && differ (drop (i + 1) ys))
-differ-left ys i l = rw (drop-cons ys i 0 l, add-one)
-
-pub differ-none : (ys : List ℕ) (i : ℕ) → length ys ≤ i → differ (drop i ys) ≡ true
-differ-none ys i l = rw (drop-of-length-le ys l)

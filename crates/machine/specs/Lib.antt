@@ -12,3 +12,4 @@ pub mod Marks
 pub mod Tested
 pub mod Matching
 pub mod Filling
+pub mod Slots

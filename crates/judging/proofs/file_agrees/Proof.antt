@@ -1,12 +1,12 @@
 use mathlib.Core.Path.{sym, _∙_}
 use native.Mathlib.Omega.{arith}
 use Rattle.written.specs.Limits.{narrow}
-use Rattle.machine.proofs.File.{names-room, starts-room, can-mark}
+use Rattle.machine.proofs.File.{counts-fit, names-room, starts-room, can-mark}
 use Rattle.judging.proofs.file_agrees.Statement.{statement}
 use Rattle.judging.proofs.file_agrees.Tie as tie
 
 names-agree-requires : tie.Need-names-agree-requires
-names-agree-requires c κs = let p = c .before .before .before .pre in names-room narrow _ (p .0) _ (p .1)
+names-agree-requires c κs = let p = c .before .before .before .pre in (counts-fit narrow _ (p .0) .terms, names-room narrow _ (p .0) _ (p .1))
 
 starts-agree-requires : tie.Need-starts-agree-requires
 starts-agree-requires c κs = let p = c .before .before .before .before .before .pre in starts-room narrow _ (p .0) _ (p .2)

@@ -1,0 +1,31 @@
+-- Names found by slots: a slot holds 0, or a term's number counted from 1; a search goes from a name's home upwards and never round. Assumes nothing.
+use Prim.Native.Nat.{ℕ, _+_, _%_, _≤_, _<_}
+use mathlib.Core.Path.{_≡_}
+use mathlib.Core.Bool.{true}
+use mathlib.Core.List.{List}
+use lib.ListN.{length, getD}
+use Rattle.written.specs.Lists.{differ}
+
+-- term k stands in a slot that a search from its name's home comes to
+pub record Reached (H : ℕ) (known slots : List ℕ) (k : ℕ) : Type 0 where
+  pub at : ℕ
+  pub from : getD known k 0 % H ≤ at
+  pub here : getD slots at 0 ≡ k + 1
+  pub run : (i : ℕ) → getD known k 0 % H ≤ i → i < at → getD slots i 0 ≡ 0 → ⊥
+
+-- the known names differ and each is found; H homes and at most L names, so H + L + 1 slots, of which the last is empty
+pub record Indexed (H L : ℕ) (known slots : List ℕ) : Type 0 where
+  pub some : 0 < H
+  pub few : length known ≤ L
+  pub room : H + L < length slots
+  pub apart : differ known ≡ true
+  pub low : (j : ℕ) → j ≤ H + L → getD slots j 0 ≤ length known
+  pub bare : (j : ℕ) → H + length known ≤ j → j ≤ H + L → getD slots j 0 ≡ 0
+  pub reached : (k : ℕ) → k < length known → Reached H known slots k
+
+-- s is the first empty slot from a name's home upwards
+pub record Vacant (H : ℕ) (known slots : List ℕ) (name s : ℕ) : Type 0 where
+  pub from : name % H ≤ s
+  pub upto : s ≤ H + length known
+  pub empty : getD slots s 0 ≡ 0
+  pub run : (i : ℕ) → name % H ≤ i → i < s → getD slots i 0 ≡ 0 → ⊥
