@@ -586,21 +586,20 @@ fn counts_agree(
 
 // ---- the rest
 
-// Every entry is 0.
+// Every entry is 0. With no way out of the loop, several entries are taken at a time.
 fn all_zero(table: &[u16]) -> bool
     ensures { λ r. ⌜ r ≡ all (λ x. eqb x 0) (now (table .entry)) ⌝ }
 {
+    let mut joined: u16 = 0;
     let mut i = 0;
     while i < table.len() {
-        if table[i] != 0 {
-            return false;
-        }
+        joined = joined | table[i];
         i += 1;
     }
-    true
+    joined == 0
 }
 
-// The same of names.
+// Every name is 0.
 fn no_names(names: &[u64]) -> bool
     ensures { λ r. ⌜ r ≡ all (λ x. eqb x 0) (now (names .entry)) ⌝ }
 {
@@ -614,7 +613,7 @@ fn no_names(names: &[u64]) -> bool
     true
 }
 
-// The same of value words.
+// Every value word is 0.
 fn no_values(words: &[u32]) -> bool
     ensures { λ r. ⌜ r ≡ all (λ x. eqb x 0) (now (words .entry)) ⌝ }
 {

@@ -1,25 +1,26 @@
 -- The rest of a table past the entries in use, and the spare bits of the value words. Assumes nothing.
-use Prim.Native.Nat.{ℕ, zero, suc, _-_, _*_, _/_, _%_, _^_, _≤_, _<_}
-use mathlib.Core.Path.{_≡_, ap, sym, _∙_}
-use mathlib.Core.Bool.{Bool, true}
+use Prim.Native.Nat.{ℕ, zero, suc, _+_, _-_, _*_, _/_, _%_, _^_, _≤_, _<_, zero-le}
+use mathlib.Core.Path.{_≡_, refl, ap, sym, _∙_}
+use mathlib.Core.Bool.{Bool, true, _&&_}
 use mathlib.Core.List.{List, [], _∷_}
 use native.Mathlib.Omega.{arith}
-use native.Mathlib.Nat.{div-lt-iff-lt-mul, mod-eq-of-lt, one-mul}
+use native.Mathlib.Nat.{div-lt-iff-lt-mul, le-antisymm, mod-eq-of-lt, one-mul}
 use lib.ListN.{length, getD, take, drop, length-take, length-drop, List·getD-eq-default}
 use lib.Seq.{getD-take, length-take-le, take-nil}
 use lib.Pow.{pow-pos, pow-mono}
+use lib.Bits.{bitOr, or-add-and, or-zero-l, and-le-l, and-le-r}
 use lib.Dec.{eqb, ltb}
 use borrow.Author.Tests.{eqb-true, eq-eqb}
 use Rattle.words.specs.Words.{bitAt, bitOf, wordCount}
 use Rattle.words.proofs.Laws.{bit-cleared, bit-past}
-use Rattle.written.specs.Lists.{all, same, listOf}
+use Rattle.written.specs.Lists.{all, below, same, listOf}
 use Rattle.written.specs.Tables.{wordOf, wordsOf}
-use Rattle.laws.proofs.Basics.{by-lt, same-eq}
+use Rattle.laws.proofs.Basics.{by-lt, both, both-first, both-second, same-eq}
 use Rattle.laws.proofs.All.{same-refl, all-take, all-drop}
 use Rattle.laws.proofs.Lists.{listFrom-length, getD-listOf, listOf-is}
 use Rattle.laws.proofs.Values.{word-at, word-lt, words-back, values-bits}
 use Rattle.machine.specs.Judging.{restRight, spareRight, valuesIn}
-use Rattle.machine.proofs.Tests.{same-tests}
+use Rattle.machine.proofs.Tests.{same-tests, all-places, all-next}
 
 -- of the first b entries those from a on, either way round
 pub drop-take : (a b : ℕ) (xs : List ℕ) → drop a (take b xs) ≡ take (b - a) (drop a xs)
@@ -27,6 +28,33 @@ drop-take zero b xs = ap (λ (k : ℕ). take k xs) (let e : b ≡ b - 0 = omega 
 drop-take (suc a) zero xs = sym (ap (λ (k : ℕ). take k (drop (suc a) xs)) (let e : 0 - suc a ≡ 0 = omega arith in e))
 drop-take (suc a) (suc b) [] = sym (take-nil (suc b - suc a))
 drop-take (suc a) (suc b) (x ∷ xs) = drop-take a b xs ∙ ap (λ (k : ℕ). take k (drop a xs)) (let e : b - a ≡ suc b - suc a = omega arith in e)
+
+-- entries joined by `or` are 0 exactly if each is
+or-none : (a b : ℕ) → eqb (bitOr a b) 0 ≡ (eqb a 0 && eqb b 0)
+or-none a b =
+    same-tests _ _
+    (λ h. let e = eqb-true (bitOr a b) 0 h in let s = or-add-and a b in let l = and-le-l a b in let r = and-le-r a b in
+    both _ _ (eq-eqb a 0 (omega arith)) (eq-eqb b 0 (omega arith)))
+    (λ h. rw (eqb-true a 0 (both-first (eqb a 0) _ h), eqb-true b 0 (both-second (eqb a 0) _ h)) (eq-eqb (bitOr 0 0) 0 (or-zero-l 0)))
+
+-- i entries were joined to y
+pub record Joined (xs : List ℕ) (y i : ℕ) : Type 0 where
+  pub within : i ≤ length xs
+  pub none : eqb y 0 ≡ all (λ k. eqb (getD xs k 0) 0) (below i)
+
+pub none-joined : (xs : List ℕ) → Joined xs 0 0
+none-joined xs = record { within = zero-le; none = refl }
+
+pub one-joined : (xs : List ℕ) (y i : ℕ) → Joined xs y i → i < length xs → Joined xs (bitOr y (getD xs i 0)) (i + 1)
+one-joined xs y i j l =
+    record {
+      within = omega arith;
+      none = or-none y (getD xs i 0) ∙ ap (λ (b : Bool). b && eqb (getD xs i 0) 0) (j .none) ∙ sym (all-next (λ k. eqb (getD xs k 0) 0) i);
+    }
+
+pub all-joined : (xs : List ℕ) (y i : ℕ) → Joined xs y i → length xs ≤ i → eqb y 0 ≡ all (λ x. eqb x 0) xs
+all-joined xs y i j l =
+    j .none ∙ ap (λ (n : ℕ). all (λ k. eqb (getD xs k 0) 0) (below n)) (le-antisymm (j .within) l) ∙ sym (all-places (λ x. eqb x 0) xs 0)
 
 -- the rest, lent as a part
 pub rest-is : (a b : ℕ) (xs : List ℕ) {r : Bool} → r ≡ all (λ x. eqb x 0) (take (b - a) (drop a xs)) → r ≡ restRight a b xs

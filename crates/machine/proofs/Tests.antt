@@ -1,13 +1,13 @@
 -- A loop that tests every number below another, or every entry of a list, and stops at the first that fails. Assumes nothing.
 use mathlib.Core.Path.{_≡_, refl, sym, subst, _∙_}
-use mathlib.Core.Bool.{Bool, true, false, not, false≢true}
+use mathlib.Core.Bool.{Bool, true, false, not, _&&_, false≢true}
 use mathlib.Core.List.{List}
 use Prim.Native.Nat.{ℕ, _+_, _<_, _≤_, zero-le}
 use native.Mathlib.Nat.{le-antisymm}
 use native.Mathlib.Omega.{arith}
 use lib.ListN.{length, getD}
 use Rattle.written.specs.Lists.{all, below}
-use Rattle.laws.proofs.Basics.{by-cases, by-eq}
+use Rattle.laws.proofs.Basics.{by-cases, by-eq, both, both-first, both-second}
 use Rattle.laws.proofs.All.{all-below, below-all, all-getD, all-by}
 
 -- two tests that hold together are the same
@@ -30,6 +30,12 @@ said-yes {r} h e = by-cases r (λ q. sym e ∙ q) (λ q. absurd (false≢true (s
 module _ (p : ℕ → Bool) where
   pub tested-more : (i : ℕ) → all p (below i) ≡ true → p i ≡ true → all p (below (i + 1)) ≡ true
   tested-more i h e = below-all p (i + 1) (λ k l. by-eq k i (λ q. rw q e) (λ q. all-below p i k (omega arith) h))
+
+  pub all-next : (i : ℕ) → all p (below (i + 1)) ≡ (all p (below i) && p i)
+  all-next i =
+      same-tests _ _
+      (λ h. both (all p (below i)) (p i) (below-all p i (λ k l. all-below p (i + 1) k (omega arith) h)) (all-below p (i + 1) i (omega arith) h))
+      (λ h. tested-more i (both-first (all p (below i)) (p i) h) (both-second (all p (below i)) (p i) h))
 
   pub test-fails : (n i : ℕ) → i < n → p i ≡ false → false ≡ all p (below n)
   test-fails n i l e = by-cases (all p (below n)) (λ h. not-both (all-below p n i l h) e) (λ h. sym h)

@@ -1,30 +1,24 @@
--- `judging::all_zero` meets its contract: the entries passed are 0. Assumes nothing.
+-- `judging::all_zero` meets its contract: what the entries are joined to is 0 exactly if each is. Assumes nothing.
 use Prim.Native.Nat.{_-_}
 use lib.ListN.{length}
-use lib.Dec.{eqb}
 use borrow.Author.Needs.{needs}
-use borrow.Author.Tests.{eq-eqb, ne-eqb}
-use Rattle.machine.proofs.Tests.{Tested, none-tested, one-tested, one-fails, all-tested}
+use Rattle.machine.proofs.Rest.{Joined, none-joined, one-joined, all-joined}
 use Rattle.judging.proofs.all_zero.Statement.{statement}
 use Rattle.judging.proofs.all_zero.Tie as tie
 
 abbrev Inv-loop : tie.InvT-loop
-Inv-loop table i₀ i = Tested (λ x. eqb x 0) table i
+Inv-loop table joined₀ i₀ joined i = Joined table joined i
 
 abbrev μ-loop : tie.MeasureT-loop
-μ-loop table i₀ i = length table - i
-
-returns : tie.Need-returns Inv-loop μ-loop
-returns c = one-fails _ _ _ (c .before .before .before .loop .inv) (c .before .before .loop-test .taken) (ne-eqb _ _ (c .if1 .taken))
+μ-loop table joined₀ i₀ joined i = length table - i
 
 loop-again : tie.Need-loop-again Inv-loop μ-loop
-loop-again c = one-tested _ _ _ (c .before .before .before .loop .inv) (c .before .before .loop-test .taken) (eq-eqb _ _ (c .if1 .left))
+loop-again c = one-joined _ _ _ (c .before .before .loop .inv) (c .before .loop-test .taken)
 
-returns-2 : tie.Need-returns-2 Inv-loop μ-loop
-returns-2 c = all-tested _ _ _ (c .before .loop .inv) (c .loop-test .left)
+returns : tie.Need-returns Inv-loop μ-loop
+returns c = all-joined _ _ _ (c .before .loop .inv) (c .loop-test .left)
 
 pub all-zero-spec : {M : Type 1} → statement M
 all-zero-spec =
     tie.close
-    (tie.spec Inv-loop μ-loop (λ c. none-tested _ _) (λ c. search needs) (λ c. search needs) returns (λ c. search needs) (λ c. search needs)
-    loop-again returns-2)
+    (tie.spec Inv-loop μ-loop (λ c. none-joined _) (λ c. search needs) (λ c. search needs) (λ c. search needs) (λ c. search needs) loop-again returns)
