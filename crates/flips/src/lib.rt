@@ -1,5 +1,5 @@
 // The flip of a term on the lent tables while walking. No clause is read: the place of a covered clause is the xor of the terms of its true literals.
-// A function that another crate of the library calls may ask something of its tables, by one record; no caller outside the library can reach it.
+// A function that another crate of the library calls may ask something of its tables, by one record, which its caller proves; none is exported.
 ghost use mathlib.Core.Path.{_≡_};
 ghost use Prim.Native.Nat.{_+_, _-_, _≤_, _<_};
 ghost use lib.ListN.{length, getD, set};

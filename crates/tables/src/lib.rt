@@ -1,5 +1,5 @@
 // The derived tables: how a clause and a literal are read from the lent tables, and what is worked out from the clauses and the values.
-// A function that another crate of the library calls may ask something of its tables, by one record; no caller outside the library can reach it.
+// A function that another crate of the library calls may ask something of its tables, by one record, which its caller proves; none is exported.
 ghost use mathlib.Core.Path.{_≡_};
 ghost use mathlib.Core.List.{flatten};
 ghost use Prim.Native.Nat.{_<_, _≤_, min};
