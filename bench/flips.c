@@ -2,33 +2,19 @@
  * Flips through ngi_flip and through the plain C version, on random files of three literals to a clause.
  *
  *   flips check TERMS CLAUSES             gives both the same lists; the status is 0 where answers and tables are the same throughout
- *   flips time TERMS CLAUSES              flips per second, and microseconds for an empty list: ngi_flip's, then the plain version's
+ *   flips time TERMS CLAUSES              flips per second, and microseconds for an empty list: of each ngi_flip's, the plain version's
+ *                                         and how many times as quick ngi_flip is
  *   flips run TERMS CLAUSES SIDE FLIPS    one list of at most 4,096 flips by one side, ngi or plain, so that instructions can be counted
  */
 #include <stdint.h>
 #include <stdio.h>
 #include <stdlib.h>
 #include <string.h>
-#include <time.h>
 
-#include "ngiyarumba.h"
+#include "common.h"
 #include "plain.h"
 
 enum { WIDTH = 3, LISTS_CHECKED = 8, ROUNDS = 5, LISTS_TIMED = 4, EMPTY_LISTS_TIMED = 64, LONGEST_RUN = 4096 };
-
-struct tables {
-    uint32_t terms, clauses, literals, uncovered;
-    uint64_t names[NGI_NAMES_SIZE];
-    uint32_t values[NGI_VALUES_SIZE];
-    uint16_t starts[NGI_STARTS_SIZE];
-    uint16_t literals_table[NGI_LITERALS_SIZE];
-    uint16_t occurrence_starts[NGI_OCCURRENCE_STARTS_SIZE];
-    uint16_t occurrences[NGI_OCCURRENCES_SIZE];
-    uint16_t true_counts[NGI_TRUE_COUNTS_SIZE];
-    uint16_t break_counts[NGI_BREAK_COUNTS_SIZE];
-    uint16_t uncovered_list[NGI_UNCOVERED_LIST_SIZE];
-    uint16_t places[NGI_PLACES_SIZE];
-};
 
 typedef __typeof__(ngi_flip) flip_function;
 
@@ -36,14 +22,6 @@ static struct tables one, other;
 static uint16_t list[NGI_LIST];
 
 /* --- random files and lists --- */
-
-/* Knuth's 64-bit linear congruence; the low bits, which are the least random, are left out. */
-static uint32_t random_below(uint32_t bound)
-{
-    static uint64_t state = 1;
-    state = state * 6364136223846793005u + 1442695040888963407u;
-    return (uint32_t)(state >> 33) % bound;
-}
 
 /* Names of two bytes. */
 static void name_terms(struct tables *t)
@@ -134,8 +112,6 @@ static void draw_list(uint32_t terms, size_t length)
 
 /* --- calls --- */
 
-#define LENT(table) (table), sizeof(table) / sizeof *(table)
-
 /* The first flips of the list; a refusal ends the program. */
 static void apply(flip_function *flip, struct tables *t, size_t flips)
 {
@@ -167,22 +143,13 @@ static int check(void)
     return 0;
 }
 
-static double seconds(void)
-{
-    struct timespec now;
-    clock_gettime(CLOCK_MONOTONIC, &now);
-    return (double)now.tv_sec + 1e-9 * (double)now.tv_nsec;
-}
-
 /* Seconds for one list, the least of the rounds so far. */
 static void time_lists(flip_function *flip, struct tables *t, size_t flips, int lists, double *least)
 {
     double start = seconds();
     for (int done = 0; done < lists; done++)
         apply(flip, t, flips);
-    double each = (seconds() - start) / lists;
-    if (*least == 0 || each < *least)
-        *least = each;
+    keep_least(least, (seconds() - start) / lists);
 }
 
 /* The two take turns, so that what slows the machine slows both. */
@@ -197,7 +164,8 @@ static int time_both(void)
         time_lists(ngi_flip, &one, 0, EMPTY_LISTS_TIMED, &empty[0]);
         time_lists(plain_flip, &other, 0, EMPTY_LISTS_TIMED, &empty[1]);
     }
-    printf("%.0f %.0f %.1f %.1f\n", NGI_LIST / full[0], NGI_LIST / full[1], 1e6 * empty[0], 1e6 * empty[1]);
+    printf("%.0f %.0f %.2f ", NGI_LIST / full[0], NGI_LIST / full[1], full[1] / full[0]);
+    printf("%.1f %.1f %.2f\n", 1e6 * empty[0], 1e6 * empty[1], empty[1] / empty[0]);
     return 0;
 }
 
@@ -207,11 +175,6 @@ static int run(const char *side, uint32_t flips)
     draw_list(one.terms, LONGEST_RUN);
     apply(strcmp(side, "ngi") == 0 ? ngi_flip : plain_flip, &one, flips);
     return 0;
-}
-
-static uint32_t number(const char *word)
-{
-    return (uint32_t)strtol(word, NULL, 10);
 }
 
 int main(int count, char **words)

@@ -1,9 +1,10 @@
-/* The plain C version of ngi_flip: it takes the same and answers the same. */
+/* The plain C versions of the library's calls: each takes the same and answers the same. */
 #ifndef PLAIN_H
 #define PLAIN_H
 
 #include "ngiyarumba.h"
 
 __typeof__(ngi_flip) plain_flip;
+__typeof__(ngi_read) plain_read;
 
 #endif

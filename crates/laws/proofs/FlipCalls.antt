@@ -28,14 +28,12 @@ use Rattle.laws.specs.Valid.{Bits, Valid}
 use Rattle.laws.specs.Demands.{SameButOrder, AfterFlips, Acceptable, SameButList, Accepted}
 use Rattle.laws.proofs.Basics.{by-cases, by-lt}
 use Rattle.laws.proofs.Lists.{getD-listOf}
-use Rattle.laws.proofs.Padding.{over-drop}
 use Rattle.laws.proofs.Times.{has-is, reordered-length, reordered-all}
 use Rattle.laws.proofs.Flips.{flipped-file}
 use Rattle.laws.proofs.Kept.{flipped-valid}
 use Rattle.laws.proofs.AnyOrder.{demand-three, afresh-listed}
-use Rattle.laws.proofs.Each.{at, by-each, each-at}
 use Rattle.laws.proofs.Each.Table.{Uncovered, Places}
-use Rattle.laws.proofs.Holding.{tables-length, holding-at, holding-full, holding-used, holding-sizes, holding-past}
+use Rattle.laws.proofs.Holding.{holding-full, holding-used, holding-beyond, holding-sizes, holding-past}
 use Rattle.laws.proofs.Back.{holding-back}
 use Rattle.laws.proofs.Agreeing.{agree-valid, agree-counts}
 use Rattle.laws.proofs.Agrees.{holding-agrees}
@@ -48,13 +46,6 @@ drop-by : (k : ℕ) (xs ys : List ℕ) → length xs ≡ length ys → ((j : ℕ
 drop-by k xs ys e h =
     ext-getD 0 (drop k xs) (drop k ys) (length-drop k xs ∙ ap (λ (m : ℕ). m - k) e ∙ sym (length-drop k ys))
     (λ j l. getD-drop k xs j 0 ∙ h (k + j) (omega arith) ∙ sym (getD-drop k ys j 0))
-
--- what lies past the full sizes is untouched
-pub holding-beyond : (lim : Limits) (s : State) (t : Tables) → Valid lim s → each drop (fullSizes lim) (holding lim s t) ≡ each drop (fullSizes lim) t
-holding-beyond lim s t v =
-    by-each _ _
-    (λ k. each-at drop k (fullSizes lim) (holding lim s t) ∙ ap (drop (at k (fullSizes lim))) (holding-at lim s t k)
-    ∙ over-drop (at k (tablesOf lim s)) (at k t) (at k (fullSizes lim)) (tables-length lim s k v) ∙ sym (each-at drop k (fullSizes lim) t))
 
 module _ (lim : Limits) (s : State) (t : Tables) (v : Valid lim s) where
   list-back : take (length (s .uncovered)) (holding lim s t .uncovered) ≡ s .uncovered

@@ -26,10 +26,10 @@ next-left : (t : List ℕ) (c : Cursor) → left t (nextLine t c) ≤ left t c
 next-left t c = omega (arith, scan-left t (passed t c), pass-forward t c)
 
 -- a turn leaves fewer than n bytes, or ends the reading
-abbrev Falls : List ℕ → ℕ → Cursor → Turn → Type 0
+abbrev pub Falls : List ℕ → ℕ → Cursor → Turn → Type 0
 Falls t n c u = After (λ c′ d. left t c′ < n) (λ r. Unit {0}) t c u
 
-turn-falls : (lim : Limits) (t : List ℕ) (c : Cursor) (d : Draft) → Falls t (left t c) (scan t c .next) (atToken lim d (scan t c .token))
+pub turn-falls : (lim : Limits) (t : List ℕ) (c : Cursor) (d : Draft) → Falls t (left t c) (scan t c .next) (atToken lim d (scan t c .token))
 turn-falls lim t c d =
     token-by (λ c′ d′. left t c′ < left t c) (λ r. Unit {0}) lim t (scan t c .next) d (scan t c .token)
     (record {

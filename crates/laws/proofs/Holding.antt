@@ -1,6 +1,6 @@
 -- Lent tables into which a state is written: their lengths, and what stands. Assumes nothing.
 use Prim.Native.Nat.{ℕ, _≤_}
-use mathlib.Core.Path.{_≡_, refl, ap, sym, _∙_}
+use mathlib.Core.Path.{_≡_, ap, sym, _∙_}
 use mathlib.Core.Bool.{true}
 use mathlib.Core.List.{List}
 use native.Mathlib.Omega.{arith}
@@ -11,10 +11,10 @@ use borrow.Author.Tests.{leb-true, le-leb}
 use Rattle.written.specs.Lists.{zeros, padded}
 use Rattle.written.specs.Limits.{Limits}
 use Rattle.written.specs.Clauses.{State}
-use Rattle.written.specs.Tables.{Tables, each, sizes, fullSizes, areFull, countsOf, inUse, tablesOf, over, holding, cleared}
+use Rattle.written.specs.Tables.{Lent, Tables, each, sizes, fullSizes, areFull, countsOf, inUse, tablesOf, over, holding, cleared}
 use Rattle.laws.specs.Valid.{Valid}
 use Rattle.laws.proofs.Lists.{padded-length, over-length}
-use Rattle.laws.proofs.Padding.{over-take, over-over, padded-take, over-sizes, over-same}
+use Rattle.laws.proofs.Padding.{over-take, over-drop, over-by, padded-take, over-sizes, over-same}
 use Rattle.laws.proofs.Each.{Table, at, by-each, each-at, every-all, every-at}
 use Rattle.laws.proofs.Sizes.{in-use, valid-fit, sizes-fit}
 
@@ -98,44 +98,61 @@ holding-used lim s t v =
     ∙ take-append-le n (at k (tablesOf lim s)) (drop (length (at k (tablesOf lim s))) (at k t)) (omega arith)
     ∙ sym (each-at take k (sizes (countsOf s)) (tablesOf lim s)) ∙ ap (at k) (tables-used lim s v))
 
--- what is written last, table by table as long, stands alone
-over-each : (a b t : Tables) → ((k : Table) → length (at k a) ≡ length (at k b)) → each over a (each over b t) ≡ each over a t
-over-each a b t h =
+-- what lies past the full sizes is untouched
+pub holding-beyond : (lim : Limits) (s : State) (t : Tables) → Valid lim s → each drop (fullSizes lim) (holding lim s t) ≡ each drop (fullSizes lim) t
+holding-beyond lim s t v =
     by-each _ _
-    (λ k. each-at over k a (each over b t) ∙ ap (over (at k a)) (each-at over k b t) ∙ over-over (at k a) (at k b) (at k t) (h k) ∙ sym (each-at over k a t))
+    (λ k. each-at drop k (fullSizes lim) (holding lim s t) ∙ ap (drop (at k (fullSizes lim))) (holding-at lim s t k)
+    ∙ over-drop (at k (tablesOf lim s)) (at k t) (at k (fullSizes lim)) (tables-length lim s k v) ∙ sym (each-at drop k (fullSizes lim) t))
 
-zeroTables : Limits → Tables
-zeroTables lim = each (λ n m. zeros n) (fullSizes lim) (fullSizes lim)
+-- so what stood in the full sizes makes no difference
+drop-each : (n : Lent ℕ) (t u : Tables) → each drop n t ≡ each drop n u → (k : Table) → drop (at k n) (at k t) ≡ drop (at k n) (at k u)
+drop-each n t u e k = sym (each-at drop k n t) ∙ ap (at k) e ∙ each-at drop k n u
 
-zero-at : (lim : Limits) (k : Table) → at k (zeroTables lim) ≡ zeros (at k (fullSizes lim))
-unfolding zeroTables
-zero-at lim k = each-at (λ n m. zeros n) k (fullSizes lim) (fullSizes lim)
+pub holding-by : (lim : Limits) (s : State) (t u : Tables) → Valid lim s → each drop (fullSizes lim) t ≡ each drop (fullSizes lim) u → holding lim s t ≡ holding lim s u
+holding-by lim s t u v e =
+    by-each _ _
+    (λ k. holding-at lim s t k
+    ∙ over-by (at k (tablesOf lim s)) (at k t) (at k u) (at k (fullSizes lim)) (tables-length lim s k v) (drop-each (fullSizes lim) t u e k)
+    ∙ sym (holding-at lim s u k))
 
-zero-length : (lim : Limits) (k : Table) → length (at k (zeroTables lim)) ≡ at k (fullSizes lim)
-zero-length lim k = ap length (zero-at lim k) ∙ length-replicate {A = ℕ} (at k (fullSizes lim)) 0
+-- the same of tables that are cleared: 0 up to the full sizes
+module _ (lim : Limits) where
+  zeros-length : (k : Table) → length (zeros (at k (fullSizes lim))) ≡ at k (fullSizes lim)
+  zeros-length k = length-replicate {A = ℕ} (at k (fullSizes lim)) 0
 
-cleared-over : (lim : Limits) (t : Tables) → cleared lim t ≡ each over (zeroTables lim) t
-cleared-over lim t =
-    by-each _ _ (λ k. cleared-at lim t k ∙ sym (each-at over k (zeroTables lim) t ∙ ap (λ (z : List ℕ). over z (at k t)) (zero-at lim k)))
+  pub cleared-take : (t : Tables) → each take (fullSizes lim) (cleared lim t) ≡ each (λ n xs. zeros n) (fullSizes lim) t
+  cleared-take t =
+      by-each _ _
+      (λ k. each-at take k (fullSizes lim) (cleared lim t) ∙ ap (take (at k (fullSizes lim))) (cleared-at lim t k)
+      ∙ over-take (zeros (at k (fullSizes lim))) (at k t) (at k (fullSizes lim)) (zeros-length k)
+      ∙ sym (each-at (λ n xs. zeros n) k (fullSizes lim) t))
 
+  pub cleared-beyond : (t : Tables) → each drop (fullSizes lim) (cleared lim t) ≡ each drop (fullSizes lim) t
+  cleared-beyond t =
+      by-each _ _
+      (λ k. each-at drop k (fullSizes lim) (cleared lim t) ∙ ap (drop (at k (fullSizes lim))) (cleared-at lim t k)
+      ∙ over-drop (zeros (at k (fullSizes lim))) (at k t) (at k (fullSizes lim)) (zeros-length k) ∙ sym (each-at drop k (fullSizes lim) t))
+
+  pub cleared-by : (t u : Tables) → each drop (fullSizes lim) t ≡ each drop (fullSizes lim) u → cleared lim t ≡ cleared lim u
+  cleared-by t u e =
+      by-each _ _
+      (λ k. cleared-at lim t k
+      ∙ over-by (zeros (at k (fullSizes lim))) (at k t) (at k u) (at k (fullSizes lim)) (zeros-length k) (drop-each (fullSizes lim) t u e k)
+      ∙ sym (cleared-at lim u k))
+
+-- what is written last stands alone
 pub holding-again : (lim : Limits) (s r : State) (t : Tables) → Valid lim s → Valid lim r → holding lim s (holding lim r t) ≡ holding lim s t
-unfolding holding
-holding-again lim s r t v w = over-each (tablesOf lim s) (tablesOf lim r) t (λ k. tables-length lim s k v ∙ sym (tables-length lim r k w))
+holding-again lim s r t v w = holding-by lim s (holding lim r t) t v (holding-beyond lim r t w)
 
 pub holding-cleared : (lim : Limits) (s : State) (t : Tables) → Valid lim s → holding lim s (cleared lim t) ≡ holding lim s t
-unfolding holding
-holding-cleared lim s t v =
-    ap (each over (tablesOf lim s)) (cleared-over lim t) ∙ over-each (tablesOf lim s) (zeroTables lim) t (λ k. tables-length lim s k v ∙ sym (zero-length lim k))
+holding-cleared lim s t v = holding-by lim s (cleared lim t) t v (cleared-beyond lim t)
 
 pub cleared-holding : (lim : Limits) (s : State) (t : Tables) → Valid lim s → cleared lim (holding lim s t) ≡ cleared lim t
-unfolding holding
-cleared-holding lim s t v =
-    cleared-over lim (holding lim s t) ∙ over-each (zeroTables lim) (tablesOf lim s) t (λ k. zero-length lim k ∙ sym (tables-length lim s k v)) ∙ sym (cleared-over lim t)
+cleared-holding lim s t v = cleared-by lim (holding lim s t) t (holding-beyond lim s t v)
 
 pub cleared-again : (lim : Limits) (t : Tables) → cleared lim (cleared lim t) ≡ cleared lim t
-cleared-again lim t =
-    cleared-over lim (cleared lim t) ∙ ap (each over (zeroTables lim)) (cleared-over lim t) ∙ over-each (zeroTables lim) (zeroTables lim) t (λ k. refl)
-    ∙ sym (cleared-over lim t)
+cleared-again lim t = cleared-by lim (cleared lim t) t (cleared-beyond lim t)
 
 -- two states written over the same tables: as long, and the same past the entries in use of both
 module _ (lim : Limits) (s r : State) (t : Tables) (k : Table) (v : Valid lim s) (w : Valid lim r) where

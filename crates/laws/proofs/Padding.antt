@@ -21,9 +21,9 @@ over-take new old n h = take-at new (drop (length new) old) n h
 pub over-drop : (new old : List ℕ) (n : ℕ) → length new ≡ n → drop n (over new old) ≡ drop n old
 over-drop new old n h = drop-at new (drop (length new) old) n h ∙ ap (λ (k : ℕ). drop k old) h
 
--- what was written before, as long, does not show
-pub over-over : (new mid old : List ℕ) → length new ≡ length mid → over new (over mid old) ≡ over new old
-over-over new mid old h = ap (λ (r : List ℕ). new ++ r) (over-drop mid old (length new) (sym h))
+-- and this is all of the old list that shows
+pub over-by : (new a b : List ℕ) (n : ℕ) → length new ≡ n → drop n a ≡ drop n b → over new a ≡ over new b
+over-by new a b n h e = ap (λ (r : List ℕ). new ++ r) (ap (λ (k : ℕ). drop k a) h ∙ e ∙ ap (λ (k : ℕ). drop k b) (sym h))
 
 -- a list's own beginning written over it
 pub over-taken : (n : ℕ) (xs : List ℕ) → n ≤ length xs → over (take n xs) xs ≡ xs

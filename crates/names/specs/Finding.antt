@@ -10,7 +10,7 @@ use Rattle.names.specs.declared.Found.the-variants.{At, New}
 
 -- with 2,048 names, 8,192 slots
 abbrev pub homes : ℕ
-homes = 6143
+homes = 6067
 
 -- the term where the name first stands, or that it is not known, and the first empty slot from its home upwards
 abbrev pub Finds : List ℕ → List ℕ → ℕ → Found → Type 0

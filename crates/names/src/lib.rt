@@ -1,8 +1,8 @@
 // Names to term numbers by slots: a slot holds 0, or a term's number counted from 1. A name has a home among the first slots, and is looked for
 // from there upwards; there are as many slots after the homes as there may be names, and one more, so no search comes to the end.
 ghost use mathlib.Core.Path.{_≡_};
-ghost use Prim.Native.Nat.{_%_, _≤_};
-ghost use lib.ListN.{length, take};
+ghost use Prim.Native.Nat.{_+_, _%_, _≤_, _<_};
+ghost use lib.ListN.{length, take, set};
 ghost use Rattle.written.specs.Limits.{narrow};
 ghost use Rattle.machine.specs.Slots.{Indexed};
 ghost use Rattle.names.specs.Finding.{homes, Finds};
@@ -17,7 +17,7 @@ pub enum Found {
 fn home(name: u64) -> usize
     ensures { λ r. ⌜ r ≡ name % homes ⌝ }
 {
-    (name % 6143) as usize
+    (name % 6067) as usize
 }
 
 // A name among the first `terms` of the names.
@@ -37,4 +37,13 @@ pub fn find(names: &[u64], slots: &[u16], terms: usize, name: u64) -> Found
         }
         s += 1;
     }
+}
+
+// A new name, put after those known and into the slot where the search for it ended.
+pub fn add(names: &mut [u64], slots: &mut [u16], terms: usize, slot: usize, name: u64)
+    requires { ⌜ (terms < length (now names)) × (slot < length (now slots)) × (terms + 1 < 65536) ⌝ }
+    ensures { λ _. ⌜ (now (names .exit) ≡ set (now (names .entry)) terms name) × (now (slots .exit) ≡ set (now (slots .entry)) slot (terms + 1)) ⌝ }
+{
+    names[terms] = name;
+    slots[slot] = (terms + 1) as u16;
 }

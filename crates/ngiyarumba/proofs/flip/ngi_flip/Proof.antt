@@ -1,9 +1,9 @@
--- `ngiyarumba::ngi_flip` meets its contract: it is `lists::apply`, its answer taken apart. Assumes nothing.
+-- `ngiyarumba::flip::ngi_flip` meets its contract: it is `lists::apply`, its answer taken apart. Assumes nothing.
 use mathlib.Core.Path.{ap, _∙_}
 use borrow.Author.Needs.{needs}
 use Rattle.ngiyarumba.specs.Answers.{flipAnswer}
-use Rattle.ngiyarumba.proofs.ngi_flip.Statement.{statement}
-use Rattle.ngiyarumba.proofs.ngi_flip.Tie as tie
+use Rattle.ngiyarumba.proofs.flip.ngi_flip.Statement.{statement}
+use Rattle.ngiyarumba.proofs.flip.ngi_flip.Tie as tie
 
 returns : tie.Need-returns
 returns c = let e = c .before .before .before .before .before .before .before .before .before .before .before .apply .ensures in (c .flip-answer .ensures ∙ ap flipAnswer (e .0), e .1)

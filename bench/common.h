@@ -1,0 +1,54 @@
+/* What the programs of the benchmark share: the lent tables with their counts, random numbers, the clock and the command line. */
+#ifndef COMMON_H
+#define COMMON_H
+
+#include <stdint.h>
+#include <stdlib.h>
+#include <time.h>
+
+#include "ngiyarumba.h"
+
+struct tables {
+    uint32_t terms, clauses, literals, uncovered;
+    uint64_t names[NGI_NAMES_SIZE];
+    uint32_t values[NGI_VALUES_SIZE];
+    uint16_t starts[NGI_STARTS_SIZE];
+    uint16_t literals_table[NGI_LITERALS_SIZE];
+    uint16_t occurrence_starts[NGI_OCCURRENCE_STARTS_SIZE];
+    uint16_t occurrences[NGI_OCCURRENCES_SIZE];
+    uint16_t true_counts[NGI_TRUE_COUNTS_SIZE];
+    uint16_t break_counts[NGI_BREAK_COUNTS_SIZE];
+    uint16_t uncovered_list[NGI_UNCOVERED_LIST_SIZE];
+    uint16_t places[NGI_PLACES_SIZE];
+};
+
+#define LENT(table) (table), sizeof(table) / sizeof *(table)
+
+/* Knuth's 64-bit linear congruence; the low bits, which are the least random, are left out. */
+static uint32_t random_below(uint32_t bound)
+{
+    static uint64_t state = 1;
+    state = state * 6364136223846793005u + 1442695040888963407u;
+    return (uint32_t)(state >> 33) % bound;
+}
+
+static double seconds(void)
+{
+    struct timespec now;
+    clock_gettime(CLOCK_MONOTONIC, &now);
+    return (double)now.tv_sec + 1e-9 * (double)now.tv_nsec;
+}
+
+/* 0 stands for no time yet. */
+static void keep_least(double *least, double each)
+{
+    if (*least == 0 || each < *least)
+        *least = each;
+}
+
+static uint32_t number(const char *word)
+{
+    return (uint32_t)strtol(word, NULL, 10);
+}
+
+#endif

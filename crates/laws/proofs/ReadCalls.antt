@@ -1,0 +1,448 @@
+-- A reading as a call: what is left where it is accepted and where it is refused, which reason is given exactly when, and that what stood
+-- before makes no difference. Assumes nothing.
+use Prim.Native.Nat.{ℕ, _+_, _-_, _*_, _≤_, _<_}
+use mathlib.Core.Logic.{_↔_, _⊎_, inl, inr}
+use mathlib.Core.Path.{_≡_, refl, ap, ap₂, sym, subst, subst₂, _∙_}
+use mathlib.Core.Bool.{Bool, true, false, false≢true, true≢false}
+use mathlib.Core.List.{List, [], _∷_}
+use native.Mathlib.Omega.{arith}
+use lib.ListN.{length, getD, take, drop, length-replicate, getD-replicate, replicate-append-replicate, List·getD-append}
+use lib.Seq.{ext-getD}
+use lib.Dec.{eqb, ltb}
+use borrow.Author.Tests.{le-ltb, lt-ltb, ltb-true, eqb-true, eqb-false, ne-eqb, not-true}
+use Rattle.scan.specs.Scan.{scan, openEnd}
+use Rattle.scan.proofs.Laws.{getD-any}
+use Rattle.words.specs.Words.{wordCount}
+use Rattle.written.specs.declared.Counts.{Counts}
+use Rattle.written.specs.declared.Reason.the-variants.{ShortTable, NoClause}
+use Rattle.written.specs.declared.Fault.{Fault}
+use Rattle.written.specs.declared.Read.{Read}
+use Rattle.written.specs.declared.Read.the-variants as R
+use Rattle.written.specs.Lists.{all, zeros, padded}
+use Rattle.written.specs.Limits.{Limits}
+use Rattle.written.specs.Reasons.{numberOf, fault}
+use Rattle.written.specs.Clauses.{File, State, afresh, asRead}
+use Rattle.written.specs.Reading.{Reading, accepted, refused, readText}
+use Rattle.written.specs.Tables.{Tables, each, sizes, fullSizes, areFull, wordOf, wordsOf, inUse, countsOf, holding, cleared, noCounts}
+use Rattle.written.specs.Agreement.{stateIn, agree}
+use Rattle.written.specs.Outcomes.{Leaves, unchanged, readLeaves, readingOf, readValues}
+use Rattle.laws.specs.Valid.{Valid}
+use Rattle.laws.specs.ReadCalls.{Filled, LeftAlone, Emptied, Stopped, reasonGiven, countsGiven, Given}
+use Rattle.laws.proofs.Basics.{by-cases, by-lt, both, both-first, both-second}
+use Rattle.laws.proofs.All.{all-take, all-drop, all-zeros}
+use Rattle.laws.proofs.Values.{word-at, words-length}
+use Rattle.laws.proofs.Each.{each-at}
+use Rattle.laws.proofs.Each.Table.{Values, Starts}
+use Rattle.laws.proofs.Sizes.{valid-fit, sizes-fit}
+use Rattle.laws.proofs.Holding.{tables-at, cleared-at, holding-full, cleared-full, holding-take, cleared-take, holding-beyond, cleared-beyond, holding-by, cleared-by}
+use Rattle.laws.proofs.Back.{holding-back}
+use Rattle.laws.proofs.Points.{Points, agree-points}
+use Rattle.laws.proofs.Agrees.{holding-agrees}
+use Rattle.laws.proofs.Turns.{namesLine}
+use Rattle.laws.proofs.Readings.{reading-valid}
+use Rattle.laws.proofs.Faults.{Placed, refusal-line}
+use Rattle.laws.proofs.Refusals.{fails-late, stops-exactly}
+
+-- ---- values of 0
+
+word-zero : (bs : List ℕ) → all (λ b. eqb b 0) bs ≡ true → wordOf bs ≡ 0
+unfolding wordOf
+word-zero [] h = refl
+word-zero (b ∷ bs) h = ap₂ {C = ℕ} (λ x w. x + 2 * w) (eqb-true b 0 (both-first (eqb b 0) _ h)) (word-zero bs (both-second (eqb b 0) _ h))
+
+words-zero : (n : ℕ) → wordsOf (zeros n) ≡ zeros (wordCount n)
+words-zero n =
+    let e = words-length (zeros n) ∙ ap wordCount (length-replicate n 0) in
+    ext-getD 0 (wordsOf (zeros n)) (zeros (wordCount n)) (e ∙ sym (length-replicate (wordCount n) 0))
+    (λ k l.
+    word-at (zeros n) k
+    ∙ word-zero (take 32 (drop (32 * k) (zeros n))) (all-take _ 32 (drop (32 * k) (zeros n)) (all-drop _ (32 * k) (zeros n) (all-zeros (λ b. eqb b 0) refl n)))
+    ∙ sym (getD-replicate (wordCount n) k 0 0 (omega arith)))
+
+padded-zeros : (m n : ℕ) → m ≤ n → padded n (zeros m) ≡ zeros n
+padded-zeros m n h =
+    let e : m + (n - length (zeros m)) ≡ n = omega (arith, length-replicate {A = ℕ} m 0) in
+    replicate-append-replicate m (n - length (zeros m)) 0 ∙ ap zeros e
+
+file-words : (lim : Limits) (f : File) → Valid lim (asRead f) → padded (fullSizes lim .values) (inUse (asRead f) .values) ≡ zeros (fullSizes lim .values)
+unfolding inUse asRead afresh sizes countsOf
+file-words lim f v =
+    let n = length (f .names) in
+    ap (padded (fullSizes lim .values)) (words-zero n) ∙ padded-zeros (wordCount n) (fullSizes lim .values) (sizes-fit lim (countsOf (asRead f)) (valid-fit lim (asRead f) v) Values)
+
+-- ---- tables in which no clause stands
+
+-- no table agrees with four counts of 0
+none-agree : (lim : Limits) (u : Tables) → agree lim noCounts u ≡ false
+none-agree lim u = by-cases (agree lim noCounts u) (λ y. absurd (omega (arith, agree-points lim noCounts u y .some))) (λ n. n)
+
+second-start : (lim : Limits) (t : Tables) → 0 < lim .clauses → getD (cleared lim t .starts) 1 0 ≡ 0
+unfolding fullSizes sizes
+second-start lim t h =
+    let n = lim .clauses + 1 in
+    let l = length-replicate {A = ℕ} n 0 in
+    ap (λ (xs : List ℕ). getD xs 1 0) (cleared-at lim t Starts)
+    ∙ List·getD-append (zeros n) (drop (length (zeros n)) (t .starts)) 0 1 (omega arith) ∙ getD-replicate n 1 0 0 (omega arith)
+
+-- and cleared ones with no counts: their starts do not rise
+cleared-disagrees : (lim : Limits) (t : Tables) (m : Counts) → agree lim m (cleared lim t) ≡ false
+cleared-disagrees lim t m = by-cases (agree lim m (cleared lim t)) (λ y. absurd (not-rising (agree-points lim m (cleared lim t) y))) (λ n. n)
+  where
+    not-rising : Points lim m (cleared lim t) (stateIn m (cleared lim t)) (each take (sizes m) (cleared lim t)) → ⊥
+    not-rising p = omega (arith, p .rise 0 (p .some), second-start lim t (omega (arith, p .some, p .fit .clauses)))
+
+-- ---- the text's own reasons, in their order
+
+by-reading : {A : Type 0} (s r : Reading) → s ≡ r → ((f : File) → s ≡ accepted f → A) → ((e : Fault) → s ≡ refused e → A) → A
+by-reading s (accepted f) q a b = a f q
+by-reading s (refused e) q a b = b e q
+
+-- the reason's number, and 0 of an accepted reading
+abbrev reasonIn : Reading → ℕ
+reasonIn (accepted f) = 0
+reasonIn (refused e) = numberOf (e .reason)
+
+-- what the text's own bytes come to: reasons 4 to 8, and then 9
+abbrev Late : Reading → Type 0
+Late (accepted f) = Unit {0}
+Late (refused e) = (namesLine (e .reason) ≡ true) ⊎ (e ≡ fault NoClause)
+
+late-from : (e : Fault) → Late (refused e) → 4 ≤ numberOf (e .reason)
+late-from e (inl h) = ltb-true 3 (numberOf (e .reason)) (both-first _ _ h)
+late-from e (inr h) = omega (arith, ap (λ (x : Fault). numberOf (x .reason)) h)
+
+late-to : (r : Reading) → Late r → reasonIn r ≤ 9
+late-to (accepted f) h = omega arith
+late-to (refused e) (inl h) = omega (arith, ltb-true (numberOf (e .reason)) 9 (both-second (ltb 3 (numberOf (e .reason))) _ h))
+late-to (refused e) (inr h) = omega (arith, ap (λ (x : Fault). numberOf (x .reason)) h)
+
+late-some : (r : Reading) → Late r → 0 < reasonIn r → 4 ≤ reasonIn r
+late-some (accepted f) h l = absurd (omega arith)
+late-some (refused e) h l = late-from e h
+
+late-none : (r : Reading) → Late r → reasonIn r ≡ 0 → (f : File) × (r ≡ accepted f)
+late-none (accepted f) h q = (f, refl)
+late-none (refused e) h q = absurd (omega (arith, late-from e h))
+
+late-last : (r : Reading) → Late r → reasonIn r ≡ 9 → r ≡ refused (fault NoClause)
+late-last (accepted f) h q = absurd (omega arith)
+late-last (refused e) (inl h) q = absurd (omega (arith, ltb-true (numberOf (e .reason)) 9 (both-second (ltb 3 (numberOf (e .reason))) _ h)))
+late-last (refused e) (inr h) q = ap refused h
+
+module _ (lim : Limits) (text : List ℕ) where
+  abbrev read : Reading
+  read = readText lim text
+
+  abbrev number : ℕ
+  number = reasonIn read
+
+  is-long : lim .text < length text → number ≡ 2
+  unfolding readText
+  is-long l = rw (lt-ltb (lim .text) (length text) l) refl
+
+  is-open : length text ≤ lim .text → openEnd text ≡ true → number ≡ 3
+  unfolding readText
+  is-open s o = rw (le-ltb (lim .text) (length text) s, o) refl
+
+  is-late : length text ≤ lim .text → openEnd text ≡ false → Late (readText lim text)
+  is-late s c =
+      by-reading read read refl (λ f e. subst Late (sym e) tt)
+      (λ e r. let h = stops-exactly lim text s c e .0 r in subst Late (sym r) (fails-late lim (h .1) (scan text (h .0) .token) e (h .3)))
+
+  by-tests : {A : Type 0} → (number ≡ 2 → lim .text < length text → A) → (number ≡ 3 → length text ≤ lim .text → openEnd text ≡ true → A)
+      → (Late (readText lim text) → A) → A
+  by-tests long cut late =
+      by-lt (lim .text) (length text) (λ l. long (is-long l) l)
+      (λ s. by-cases (openEnd text) (λ o. cut (is-open s o) s o) (λ c. late (is-late s c)))
+
+  text-2 : (number ≡ 2) ↔ (lim .text < length text)
+  text-2 = (λ q. by-tests (λ _ l. l) (λ n. absurd (omega arith)) (λ h. absurd (omega (arith, late-some read h (omega arith)))), is-long)
+
+  text-3 : (number ≡ 3) ↔ ((length text ≤ lim .text) × (openEnd text ≡ true))
+  text-3 = (λ q. by-tests (λ n. absurd (omega arith)) (λ _ s o. (s, o)) (λ h. absurd (omega (arith, late-some read h (omega arith)))), λ h. is-open (h .0) (h .1))
+
+  text-9 : (number ≡ 9) ↔ (readText lim text ≡ refused (fault NoClause))
+  text-9 = (λ q. by-tests (λ n. absurd (omega arith)) (λ n. absurd (omega arith)) (λ h. late-last read h q), ap reasonIn)
+
+  text-0 : (number ≡ 0) ↔ ((f : File) × (readText lim text ≡ accepted f))
+  text-0 = (λ q. by-tests (λ n. absurd (omega arith)) (λ n. absurd (omega arith)) (λ h. late-none read h q), λ h. ap reasonIn (h .1))
+
+  text-1 : number ≡ 1 → ⊥
+  text-1 q = by-tests (λ n. omega arith) (λ n _. omega arith) (λ h. omega (arith, late-some read h (omega arith)))
+
+  refused-from : (e : Fault) → readText lim text ≡ refused e → 2 ≤ numberOf (e .reason)
+  refused-from e r =
+      by-tests (λ n _. omega (arith, ap reasonIn r)) (λ n _ _. omega (arith, ap reasonIn r)) (λ h. omega (arith, late-from e (subst Late r h)))
+
+  text-to : number ≤ 9
+  text-to = by-tests (λ n _. omega arith) (λ n _ _. omega arith) (λ h. late-to read h)
+
+-- "text not empty and last byte not 10"
+pub open-exactly : (text : List ℕ) → (openEnd text ≡ true) ↔ ((0 < length text) × (getD text (length text - 1) 0 ≡ 10 → ⊥))
+open-exactly [] = (λ e. absurd (false≢true e), λ h. absurd (omega (arith, h .0)))
+open-exactly (b ∷ s) =
+    let text = b ∷ s in
+    let last = getD-any text 0 10 (length text - 1) (omega arith) in (
+      λ e. (omega arith, λ ten. eqb-false (getD text (length text - 1) 10) 10 (not-true _ e) (sym last ∙ ten)),
+      λ h. rw (ne-eqb (getD text (length text - 1) 10) 10 (λ ten. h .1 (last ∙ ten))) refl,
+    )
+
+-- ---- what a call answers and leaves
+
+abbrev isAccepted : Read → Bool
+isAccepted (R.Accepted n) = true
+isAccepted (R.Refused e) = false
+
+abbrev countsIn : Read → Counts
+countsIn (R.Accepted n) = n
+countsIn (R.Refused e) = noCounts
+
+abbrev faultIn : Read → Fault
+faultIn (R.Accepted n) = fault NoClause
+faultIn (R.Refused e) = e
+
+leaves-reason : (lim : Limits) (t : Tables) (r : Reading) → readValues (readLeaves lim t r .answer) .reason ≡ reasonIn r
+unfolding readLeaves
+leaves-reason lim t (accepted f) = refl
+leaves-reason lim t (refused e) = refl
+
+module _ (lim : Limits) (text : List ℕ) (t : Tables) where
+  -- for short tables the answer is reason 1, whatever the text
+  pub short-reading : areFull lim t ≡ false → readingOf lim text t ≡ unchanged t (R.Refused (fault ShortTable))
+  unfolding readingOf
+  short-reading h = rw h refl
+
+  pub full-reading : areFull lim t ≡ true → readingOf lim text t ≡ readLeaves lim t (readText lim text)
+  unfolding readingOf
+  full-reading h = rw h refl
+
+  -- one of three
+  by-outcome : {A : Type 0} → (areFull lim t ≡ false → A) → (areFull lim t ≡ true → (f : File) → readText lim text ≡ accepted f → A)
+      → (areFull lim t ≡ true → (e : Fault) → readText lim text ≡ refused e → A) → A
+  by-outcome short told faulty = by-cases (areFull lim t) (λ full. by-reading (readText lim text) (readText lim text) refl (told full) (faulty full)) short
+
+  short-answer : areFull lim t ≡ false → readingOf lim text t .answer ≡ R.Refused (fault ShortTable)
+  short-answer h = ap (λ (l : Leaves Read). l .answer) (short-reading h)
+
+  accepted-answer : areFull lim t ≡ true → (f : File) → readText lim text ≡ accepted f → readingOf lim text t .answer ≡ R.Accepted (countsOf (asRead f))
+  unfolding readLeaves
+  accepted-answer h f e = ap (λ (l : Leaves Read). l .answer) (full-reading h ∙ ap (readLeaves lim t) e)
+
+  accepted-tables : areFull lim t ≡ true → (f : File) → readText lim text ≡ accepted f → readingOf lim text t .tables ≡ holding lim (asRead f) t
+  unfolding readLeaves
+  accepted-tables h f e = ap (λ (l : Leaves Read). l .tables) (full-reading h ∙ ap (readLeaves lim t) e)
+
+  refused-answer : areFull lim t ≡ true → (e : Fault) → readText lim text ≡ refused e → readingOf lim text t .answer ≡ R.Refused e
+  unfolding readLeaves
+  refused-answer h e r = ap (λ (l : Leaves Read). l .answer) (full-reading h ∙ ap (readLeaves lim t) r)
+
+  refused-tables : areFull lim t ≡ true → (e : Fault) → readText lim text ≡ refused e → readingOf lim text t .tables ≡ cleared lim t
+  unfolding readLeaves
+  refused-tables h e r = ap (λ (l : Leaves Read). l .tables) (full-reading h ∙ ap (readLeaves lim t) r)
+
+-- ---- what an accepted call leaves
+
+filled : (lim : Limits) (f : File) (t : Tables) → Valid lim (asRead f) → areFull lim t ≡ true → Filled lim f t (countsOf (asRead f)) (holding lim (asRead f) t)
+unfolding countsOf asRead afresh stateIn
+filled lim f t v full =
+    record {
+      valid = v;
+      counts = refl;
+      left = refl;
+      in-full-sizes = holding-take lim (asRead f) t v;
+      beyond = holding-beyond lim (asRead f) t v;
+      state = back;
+      values = ap (λ (s : State). s .values) back;
+      words = zero-words;
+      worked-out = back ∙ ap (λ (g : File). afresh g (zeros (length (f .names)))) (sym (ap (λ (s : State). s .file) back));
+      full = holding-full lim (asRead f) t v full;
+      agrees = holding-agrees lim (asRead f) t v;
+    }
+  where
+    back : stateIn (countsOf (asRead f)) (holding lim (asRead f) t) ≡ asRead f
+    back = holding-back lim (asRead f) t v
+
+    zero-words : take (fullSizes lim .values) (holding lim (asRead f) t .values) ≡ zeros (fullSizes lim .values)
+    zero-words =
+        sym (each-at take Values (fullSizes lim) (holding lim (asRead f) t)) ∙ ap (λ (u : Tables). u .values) (holding-take lim (asRead f) t v)
+        ∙ tables-at lim (asRead f) Values ∙ file-words lim f v
+
+-- ---- what a refused call leaves
+
+emptied : (lim : Limits) (text : List ℕ) (t : Tables) (e : Fault) → areFull lim t ≡ true → readText lim text ≡ refused e → Emptied lim text t e (cleared lim t)
+emptied lim text t e full r =
+    record {
+      lent-full = full;
+      read = r;
+      from-2 = refused-from lim text e r;
+      to-9 = omega (arith, text-to lim text, ap reasonIn r);
+      some-line = λ a b. placed .some (both _ _ (lt-ltb 3 (numberOf (e .reason)) a) (lt-ltb (numberOf (e .reason)) 9 (omega arith)));
+      last-line = placed .most;
+      line-before = λ h. placed .none (rw (le-ltb 3 (numberOf (e .reason)) h) refl);
+      line-after = λ h. placed .none (rw h refl);
+      left = refl;
+      in-full-sizes = cleared-take lim t;
+      beyond = cleared-beyond lim t;
+      full = cleared-full lim t full;
+      disagrees = cleared-disagrees lim t;
+    }
+  where
+    placed : Placed text e
+    placed = refusal-line lim text e r
+
+-- ---- the call
+
+module _ (lim : Limits) (text : List ℕ) (t : Tables) where
+  -- accepted, it leaves the tables of the file that the text says
+  pub reading-accepted : (n : Counts) → readingOf lim text t .answer ≡ R.Accepted n
+      → (f : File) × (areFull lim t ≡ true) × (readText lim text ≡ accepted f) × Filled lim f t n (readingOf lim text t .tables)
+  reading-accepted n q =
+      by-outcome lim text t (λ s. absurd (false≢true (ap isAccepted (sym (short-answer lim text t s) ∙ q))))
+      (λ full f e. (
+        f,
+        full,
+        e,
+        subst₂ (λ m u. Filled lim f t m u) (ap countsIn (sym (accepted-answer lim text t full f e) ∙ q)) (sym (accepted-tables lim text t full f e))
+            (filled lim f t (reading-valid lim text f e) full),
+      ))
+      (λ full e r. absurd (false≢true (ap isAccepted (sym (refused-answer lim text t full e r) ∙ q))))
+
+  -- a refusal is the text's where the tables are full
+  text-fault : areFull lim t ≡ true → (e : Fault) → readingOf lim text t .answer ≡ R.Refused e → readText lim text ≡ refused e
+  text-fault full e q =
+      by-reading (readText lim text) (readText lim text) refl (λ f g. absurd (true≢false (ap isAccepted (sym (accepted-answer lim text t full f g) ∙ q))))
+      (λ d r. r ∙ ap refused (ap faultIn (sym (refused-answer lim text t full d r) ∙ q)))
+
+  -- and reason 1 where one is short
+  short-fault : areFull lim t ≡ false → (e : Fault) → readingOf lim text t .answer ≡ R.Refused e → e ≡ fault ShortTable
+  short-fault short e q = ap faultIn (sym q ∙ short-answer lim text t short)
+
+  -- refused, it leaves all unchanged, by reason 1, or tables 0
+  pub reading-refused : (e : Fault) → readingOf lim text t .answer ≡ R.Refused e
+      → LeftAlone lim t e (readingOf lim text t .tables) ⊎ Emptied lim text t e (readingOf lim text t .tables)
+  reading-refused e q =
+      by-cases (areFull lim t)
+      (λ full.
+      let r = text-fault full e q in
+      inr (subst (λ u. Emptied lim text t e u) (sym (refused-tables lim text t full e r)) (emptied lim text t e full r)))
+      (λ short. inl (record {
+        short = short;
+        reason = short-fault short e q;
+        left = ap (λ (l : Leaves Read). l .tables) (short-reading lim text t short);
+        disagrees = none-agree lim (readingOf lim text t .tables);
+      }))
+
+  -- every text is accepted or refused, and none is both
+  pub reading-either : ((n : Counts) × (readingOf lim text t .answer ≡ R.Accepted n)) ⊎ ((e : Fault) × (readingOf lim text t .answer ≡ R.Refused e))
+  reading-either =
+      by-outcome lim text t (λ s. inr (fault ShortTable, short-answer lim text t s))
+      (λ full f e. inl (countsOf (asRead f), accepted-answer lim text t full f e)) (λ full e r. inr (e, refused-answer lim text t full e r))
+
+  pub reading-not-both : (n : Counts) (e : Fault) → readingOf lim text t .answer ≡ R.Accepted n → readingOf lim text t .answer ≡ R.Refused e → ⊥
+  reading-not-both n e a r = true≢false (ap isAccepted (sym a ∙ r))
+
+  -- accepted exactly if the tables are full and the text says a file
+  pub accepted-exactly : ((n : Counts) × (readingOf lim text t .answer ≡ R.Accepted n)) ↔ ((areFull lim t ≡ true) × ((f : File) × (readText lim text ≡ accepted f)))
+  accepted-exactly = (
+    λ a. let h = reading-accepted (a .0) (a .1) in (h .1, (h .0, h .2)),
+    λ h. (countsOf (asRead (h .1 .0)), accepted-answer lim text t (h .0) (h .1 .0) (h .1 .1)),
+  )
+
+  -- refused exactly if a table is short, or the tables are full and the text is at fault
+  pub refused-exactly : (e : Fault)
+      → (readingOf lim text t .answer ≡ R.Refused e)
+      ↔ (((areFull lim t ≡ false) × (e ≡ fault ShortTable)) ⊎ ((areFull lim t ≡ true) × (readText lim text ≡ refused e)))
+  refused-exactly e = (λ q. by-cases (areFull lim t) (λ full. inr (full, text-fault full e q)) (λ short. inl (short, short-fault short e q)), back)
+    where
+      back : ((areFull lim t ≡ false) × (e ≡ fault ShortTable)) ⊎ ((areFull lim t ≡ true) × (readText lim text ≡ refused e)) → readingOf lim text t .answer ≡ R.Refused e
+      back (inl h) = short-answer lim text t (h .0) ∙ ap R.Refused (sym (h .1))
+      back (inr h) = refused-answer lim text t (h .0) e (h .1)
+
+  -- which reason is given
+
+  full-reason : areFull lim t ≡ true → reasonGiven lim text t ≡ reasonIn (readText lim text)
+  full-reason h = ap (λ (l : Leaves Read). readValues (l .answer) .reason) (full-reading lim text t h) ∙ leaves-reason lim t (readText lim text)
+
+  short-reason : areFull lim t ≡ false → reasonGiven lim text t ≡ 1
+  short-reason h = ap (λ (a : Read). readValues a .reason) (short-answer lim text t h)
+
+  -- a reason of the text is given where the tables are full
+  where-full : (k : ℕ) {X : Type 0} → (k ≡ 1 → ⊥) → (reasonIn (readText lim text) ≡ k) ↔ X → (reasonGiven lim text t ≡ k) ↔ ((areFull lim t ≡ true) × X)
+  where-full k other exactly = (
+    λ q. by-cases (areFull lim t) (λ full. (full, exactly .0 (sym (full-reason full) ∙ q))) (λ short. absurd (other (sym q ∙ short-reason short))),
+    λ h. full-reason (h .0) ∙ exactly .1 (h .1),
+  )
+
+  from-left : (e : Fault) → 4 ≤ numberOf (e .reason) → (readingOf lim text t .answer ≡ R.Refused e) ↔ Stopped lim text t e
+  from-left e late = (
+    λ q. by-cases (areFull lim t)
+        (λ full.
+        let r = text-fault full e q in
+        let n = ap reasonIn r in
+        by-lt (lim .text) (length text) (λ l. absurd (omega (arith, is-long lim text l)))
+        (λ s. by-cases (openEnd text) (λ o. absurd (omega (arith, is-open lim text s o)))
+        (λ c.
+        let h = stops-exactly lim text s c e .0 r in
+        record { full = full; short = s; closed = c; cursor = h .0; draft = h .1; comes = h .2; fails = h .3 })))
+        (λ short. absurd (omega (arith, ap (λ (x : Fault). numberOf (x .reason)) (short-fault short e q)))),
+    λ h. refused-answer lim text t (h .full) e (stops-exactly lim text (h .short) (h .closed) e .1 (h .cursor, h .draft, h .comes, h .fails)),
+  )
+
+  pub reading-given : Given lim text t
+  reading-given =
+      record {
+        reason-1 = (λ q. by-cases (areFull lim t) (λ full. absurd (text-1 lim text (sym (full-reason full) ∙ q))) (λ short. short), short-reason);
+        reason-2 = where-full 2 (λ e. omega arith) (text-2 lim text);
+        reason-3 = where-full 3 (λ e. omega arith) (text-3 lim text);
+        from-left = from-left;
+        reason-9 = where-full 9 (λ e. omega arith) (text-9 lim text);
+        to-9 = by-cases (areFull lim t) (λ full. omega (arith, full-reason full, text-to lim text)) (λ short. omega (arith, short-reason short));
+        no-reason = where-full 0 (λ e. omega arith) (text-0 lim text);
+      }
+
+  -- the tables left agree with the counts given exactly where no reason is given
+  pub reading-agrees : (reasonGiven lim text t ≡ 0) ↔ (agree lim (countsGiven lim text t) (readingOf lim text t .tables) ≡ true)
+  reading-agrees = (
+    λ q. by-outcome lim text t (λ s. absurd (omega (arith, short-reason s)))
+        (λ full f e. let a = accepted-answer lim text t full f e in given a ∙ reading-accepted (countsOf (asRead f)) a .3 .agrees)
+        (λ full e r. absurd (omega (arith, full-reason full, ap reasonIn r, refused-from lim text e r))),
+    λ h. by-outcome lim text t (λ s. absurd (disagrees (fault ShortTable) h (short-answer lim text t s))) (λ full f e. full-reason full ∙ ap reasonIn e)
+        (λ full e r. absurd (disagrees e h (refused-answer lim text t full e r))),
+  )
+    where
+      given : {a : Read} → readingOf lim text t .answer ≡ a
+          → agree lim (countsGiven lim text t) (readingOf lim text t .tables) ≡ agree lim (readValues a .counts) (readingOf lim text t .tables)
+      given e = ap (λ (a : Read). agree lim (readValues a .counts) (readingOf lim text t .tables)) e
+
+      disagrees : (e : Fault) → agree lim (countsGiven lim text t) (readingOf lim text t .tables) ≡ true → readingOf lim text t .answer ≡ R.Refused e → ⊥
+      disagrees e h q = true≢false (sym h ∙ given q ∙ none-agree lim (readingOf lim text t .tables))
+
+-- ---- what stood before makes no difference
+
+module _ (lim : Limits) (text : List ℕ) where
+  leaves-by : (t u : Tables) → each drop (fullSizes lim) t ≡ each drop (fullSizes lim) u → readLeaves lim t (readText lim text) ≡ readLeaves lim u (readText lim text)
+  unfolding readLeaves
+  leaves-by t u same =
+      by-reading (readText lim text) (readText lim text) refl
+      (λ f e. rw e (ap (λ (w : Tables). record { answer = R.Accepted (countsOf (asRead f)); tables = w }) (holding-by lim (asRead f) t u (reading-valid lim text f e) same)))
+      (λ e r. rw r (ap (λ (w : Tables). record { answer = R.Refused e; tables = w }) (cleared-by lim t u same)))
+
+  -- full tables that are the same past their full sizes are read into alike
+  pub reading-by : (t u : Tables) → areFull lim t ≡ true → areFull lim u ≡ true → each drop (fullSizes lim) t ≡ each drop (fullSizes lim) u
+      → readingOf lim text t ≡ readingOf lim text u
+  reading-by t u ft fu same = full-reading lim text t ft ∙ leaves-by t u same ∙ sym (full-reading lim text u fu)
+
+-- a reading into tables that another has left is as one into the tables before it
+pub reading-over : (lim : Limits) (first second : List ℕ) (t : Tables) → readingOf lim second (readingOf lim first t .tables) ≡ readingOf lim second t
+reading-over lim first second t =
+    by-outcome lim first t (λ s. ap (λ (l : Leaves Read). readingOf lim second (l .tables)) (short-reading lim first t s))
+    (λ full f e.
+    let v = reading-valid lim first f e in
+    ap (readingOf lim second) (accepted-tables lim first t full f e)
+    ∙ reading-by lim second (holding lim (asRead f) t) t (holding-full lim (asRead f) t v full) full (holding-beyond lim (asRead f) t v))
+    (λ full e r.
+    ap (readingOf lim second) (refused-tables lim first t full e r) ∙ reading-by lim second (cleared lim t) t (cleared-full lim t full) full (cleared-beyond lim t))
+
+-- "two outcomes allowed by it are equal": read twice, the same
+pub read-twice : (lim : Limits) (text : List ℕ) (t : Tables) → readingOf lim text (readingOf lim text t .tables) ≡ readingOf lim text t
+read-twice lim text t = reading-over lim text text t

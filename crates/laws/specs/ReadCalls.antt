@@ -1,0 +1,150 @@
+-- A reading as a call, in the document's words: `readingOf lim text t` is what it answers and leaves, of clause text and lent tables t.
+-- Assumes nothing.
+use Prim.Native.Nat.{ℕ, _≤_, _<_}
+use mathlib.Core.Logic.{_↔_}
+use mathlib.Core.Path.{_≡_}
+use mathlib.Core.Bool.{true, false, not}
+use mathlib.Core.List.{List, []}
+use lib.ListN.{length, take, drop}
+use Rattle.scan.specs.declared.Cursor.{Cursor}
+use Rattle.scan.specs.declared.Lit.{Lit}
+use Rattle.scan.specs.declared.Token.{Token}
+use Rattle.scan.specs.declared.Token.the-variants.{Literal, Line, End, Bad, Long}
+use Rattle.scan.specs.Scan.{scan, start, openEnd}
+use Rattle.written.specs.declared.Counts.{Counts}
+use Rattle.written.specs.declared.Reason.the-variants.{ShortTable, BadByte, LongName, TermRoom, LiteralRoom, ClauseRoom, NoClause}
+use Rattle.written.specs.declared.Fault.{Fault}
+use Rattle.written.specs.declared.Read.the-variants as R
+use Rattle.written.specs.Lists.{has, times, zeros}
+use Rattle.written.specs.Limits.{Limits}
+use Rattle.written.specs.Reasons.{numberOf, fault, faultAt}
+use Rattle.written.specs.Clauses.{File, afresh, asRead}
+use Rattle.written.specs.Reading.{Draft, accepted, refused, goes, drops, numbered, held, nothing, atToken, nextLine, readText}
+use Rattle.written.specs.Tables.{Tables, each, fullSizes, areFull, tablesOf, countsOf, holding, cleared, noCounts}
+use Rattle.written.specs.Agreement.{fileIn, stateIn, agree}
+use Rattle.written.specs.Outcomes.{readingOf, readValues}
+use Rattle.laws.specs.Valid.{Valid}
+
+-- ---- what a call leaves
+
+-- an accepted one, of which f is the file: counts n, and tables u where t stood
+pub record Filled (lim : Limits) (f : File) (t : Tables) (n : Counts) (u : Tables) : Type 0 where
+  -- the file is within the limits, its names valid and different, each clause proper
+  pub valid : Valid lim (asRead f)
+  -- "Beside them go four counts by value: terms, clauses, literals, uncovered."
+  pub counts : n ≡ countsOf (asRead f)
+  -- "A library reads clause text into lent tables": what stood in t up to the full sizes is gone
+  pub left : u ≡ holding lim (asRead f) t
+  -- "Entries past those in use, up to the full size, are 0."
+  pub in-full-sizes : each take (fullSizes lim) u ≡ tablesOf lim (asRead f)
+  -- "A lent table may be longer than its full size; the excess is never read or written."
+  pub beyond : each drop (fullSizes lim) u ≡ each drop (fullSizes lim) t
+  -- the tables hold the file that was read
+  pub state : stateIn n u ≡ asRead f
+  -- "An accepted reading leaves every value 0", and so each word of 32
+  pub values : stateIn n u .values ≡ zeros (n .terms)
+  pub words : take (fullSizes lim .values) (u .values) ≡ zeros (fullSizes lim .values)
+  -- "and all counts worked out for that, with the uncovered list in rising clause order"
+  pub worked-out : stateIn n u ≡ afresh (fileIn n u) (zeros (n .terms))
+  -- a walk or a flip list on these counts and tables is given neither reason 1 nor reason 12
+  pub full : areFull lim u ≡ true
+  pub agrees : agree lim n u ≡ true
+
+-- one refused by reason 1
+pub record LeftAlone (lim : Limits) (t : Tables) (e : Fault) (u : Tables) : Type 0 where
+  -- "a lent table is shorter than its full size"
+  pub short : areFull lim t ≡ false
+  -- "The line is that of the fault for 4 to 8 [..], else 0."
+  pub reason : e ≡ fault ShortTable
+  -- "all unchanged"
+  pub left : u ≡ t
+  -- "A refused reading returns four counts of 0, for reason 1 too": no table agrees with these
+  pub disagrees : agree lim noCounts u ≡ false
+
+-- one refused by another reason: "tables 0"
+pub record Emptied (lim : Limits) (text : List ℕ) (t : Tables) (e : Fault) (u : Tables) : Type 0 where
+  pub lent-full : areFull lim t ≡ true
+  pub read : readText lim text ≡ refused e
+  -- "A reading tests 1, 2, 3, then the text from the left, then 9."
+  pub from-2 : 2 ≤ numberOf (e .reason)
+  pub to-9 : numberOf (e .reason) ≤ 9
+  -- "The line is that of the fault for 4 to 8": one of the text's, of which there are as many as bytes 10
+  pub some-line : 4 ≤ numberOf (e .reason) → numberOf (e .reason) ≤ 8 → 0 < e .line
+  pub last-line : e .line ≤ times 10 text
+  -- "else 0"
+  pub line-before : numberOf (e .reason) ≤ 3 → e .line ≡ 0
+  pub line-after : numberOf (e .reason) ≡ 9 → e .line ≡ 0
+  -- '"Tables 0" means the full sizes'
+  pub left : u ≡ cleared lim t
+  pub in-full-sizes : each take (fullSizes lim) u ≡ each (λ n xs. zeros n) (fullSizes lim) t
+  -- "the excess is never read or written"
+  pub beyond : each drop (fullSizes lim) u ≡ each drop (fullSizes lim) t
+  pub full : areFull lim u ≡ true
+  -- "all four counts are then 0": no clause stands in such tables, so no counts agree with them, these four neither
+  pub disagrees : (m : Counts) → agree lim m u ≡ false
+
+-- ---- "then the text from the left": where a reading comes by, and what it cannot pass
+
+-- its start, and then where each turn leads: on, or past a line that is dropped
+pub data Comes (lim : Limits) (text : List ℕ) : Cursor → Draft → Type 0 where
+  begins : Comes lim text start nothing
+  goes-on : (c : Cursor) (d then : Draft) → Comes lim text c d → atToken lim d (scan text c .token) ≡ goes then → Comes lim text (scan text c .next) then
+  drops-line : (c : Cursor) (d then : Draft) → Comes lim text c d → atToken lim d (scan text c .token) ≡ drops then
+      → Comes lim text (nextLine text (scan text c .next)) then
+
+-- a literal that is not skipped and does not drop its line: it does not stand in it, and neither does its opposite
+pub record Fresh (d : Draft) (l : Lit) : Type 0 where
+  pub once : has (numbered d l (l .negated)) (d .line) ≡ false
+  pub one-way : has (numbered d l (not (l .negated))) (d .line) ≡ false
+
+-- a token that a reading cannot pass where it has read d: reasons 4 to 9, "given exactly when", with the line of the token
+pub data Fails (lim : Limits) (d : Draft) : Token → Fault → Type 0 where
+  -- "a byte not allowed there"
+  bad-byte : (n : ℕ) → Fails lim d (Bad n) (faultAt n BadByte)
+  -- "a name's ninth byte"
+  ninth-byte : (n : ℕ) → Fails lim d (Long n) (faultAt n LongName)
+  -- "a new term when 2,048 are known"
+  term-room : (l : Lit) → Fresh d l → has (l .name) (d .names) ≡ false → lim .terms ≤ length (d .names) → Fails lim d (Literal l) (faultAt (l .line) TermRoom)
+  -- "a literal when 16,384 are held", its term known or given room
+  literal-room : (l : Lit) → Fresh d l → (has (l .name) (d .names) ≡ false → length (d .names) < lim .terms) → lim .literals ≤ held d
+      → Fails lim d (Literal l) (faultAt (l .line) LiteralRoom)
+  -- "a kept line when 8,192 are held"
+  clause-room : (n : ℕ) → 0 < length (d .line) → lim .clauses ≤ length (d .clauses) → Fails lim d (Line n) (faultAt n ClauseRoom)
+  -- "no clause kept"
+  no-clause : (n : ℕ) → d .clauses ≡ [] → Fails lim d (End n) (fault NoClause)
+
+-- "Reading stops at the first fault": the tests 1, 2 and 3 are passed, and the reading comes to a token that it cannot pass
+pub record Stopped (lim : Limits) (text : List ℕ) (t : Tables) (e : Fault) : Type 0 where
+  pub full : areFull lim t ≡ true
+  pub short : length text ≤ lim .text
+  pub closed : openEnd text ≡ false
+  pub cursor : Cursor
+  pub draft : Draft
+  pub comes : Comes lim text cursor draft
+  pub fails : Fails lim draft (scan text cursor .token) e
+
+-- ---- what a call gives
+
+-- the reason's number, and 0 where there is none
+abbrev pub reasonGiven : Limits → List ℕ → Tables → ℕ
+reasonGiven lim text t = readValues (readingOf lim text t .answer) .reason
+
+abbrev pub countsGiven : Limits → List ℕ → Tables → Counts
+countsGiven lim text t = readValues (readingOf lim text t .answer) .counts
+
+-- "given exactly when": each test is made when those before it have not refused
+pub record Given (lim : Limits) (text : List ℕ) (t : Tables) : Type 0 where
+  -- "a lent table is shorter than its full size"
+  pub reason-1 : (reasonGiven lim text t ≡ 1) ↔ (areFull lim t ≡ false)
+  -- "text [..] over 65,536 bytes"
+  pub reason-2 : (reasonGiven lim text t ≡ 2) ↔ ((areFull lim t ≡ true) × (lim .text < length text))
+  -- "text not empty and last byte not 10"
+  pub reason-3 : (reasonGiven lim text t ≡ 3) ↔ ((areFull lim t ≡ true) × ((length text ≤ lim .text) × (openEnd text ≡ true)))
+  -- 4 to 9, each as `Fails` says it, with its line
+  pub from-left : (e : Fault) → 4 ≤ numberOf (e .reason) → (readingOf lim text t .answer ≡ R.Refused e) ↔ Stopped lim text t e
+  -- "no clause kept"
+  pub reason-9 : (reasonGiven lim text t ≡ 9) ↔ ((areFull lim t ≡ true) × (readText lim text ≡ refused (fault NoClause)))
+  -- no other than these and 4 to 8
+  pub to-9 : reasonGiven lim text t ≤ 9
+  -- none is given to a text that can be read
+  pub no-reason : (reasonGiven lim text t ≡ 0) ↔ ((areFull lim t ≡ true) × ((f : File) × (readText lim text ≡ accepted f)))

@@ -1,0 +1,16 @@
+-- `ngiyarumba::read::read_answer` meets its contract: the values of each case. Assumes nothing.
+use borrow.Author.Needs.{needs}
+use Rattle.ngiyarumba.specs.Answers.{readAnswer}
+use Rattle.ngiyarumba.proofs.read.read_answer.Statement.{statement}
+use Rattle.ngiyarumba.proofs.read.read_answer.Tie as tie
+
+returns : tie.Need-returns
+unfolding readAnswer
+returns c = rw (c .before .answer .given .1)
+
+returns-2 : tie.Need-returns-2
+unfolding readAnswer
+returns-2 c = rw (c .before .before .answer2 .given .1, c .number-of .ensures)
+
+pub read-answer-spec : {M : Type 1} → statement M
+read-answer-spec = tie.close (tie.spec (λ c. search needs) (λ c. search needs) (λ c κs. search needs) returns returns-2)

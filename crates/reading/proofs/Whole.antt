@@ -1,0 +1,185 @@
+-- A whole draft in tables that were cleared: it can be finished, and then the tables are those written for the file that was read. Assumes nothing.
+use mathlib.Core.Path.{_≡_, refl, ap, sym, _∙_, subst, subst₂}
+use mathlib.Core.List.{List, _++_, flatten}
+use Prim.Native.Nat.{ℕ, _+_, _*_, _≤_, _<_}
+use native.Mathlib.Omega.{arith}
+use lib.ListN.{length, take, drop}
+use Rattle.written.specs.declared.Counts.{Counts}
+use Rattle.written.specs.declared.Read.the-variants as R
+use Rattle.written.specs.Lists.{padded}
+use Rattle.written.specs.Limits.{Limits}
+use Rattle.written.specs.Clauses.{File, State, afresh, asRead}
+use Rattle.written.specs.Reading.{accepted}
+use Rattle.written.specs.Tables.{Tables, lent, sizes, fullSizes, startsFrom, turnedRound, inUse, over, countsOf, holding}
+use Rattle.written.specs.Outcomes.{readLeaves}
+use Rattle.laws.specs.Valid.{Proper, Valid}
+use Rattle.laws.proofs.Lists.{padded-length}
+use Rattle.laws.proofs.Parts.{flatten-length}
+use Rattle.laws.proofs.Each.Table.{Names, Starts, Literals, OccurrenceStarts, Occurrences, Breaks, Places}
+use Rattle.laws.proofs.Holding.{tables-at, holding-at}
+use Rattle.laws.proofs.Readings.{reading-proper}
+use Rattle.machine.specs.Tallies.{tallies}
+use Rattle.machine.specs.Moving.{Fixed, fixed, Moving, moving, view}
+use Rattle.machine.specs.Passes.{zeroed, closed, recounted, CanClose, CanRecount}
+use Rattle.machine.specs.Holds.{Walking}
+use Rattle.machine.specs.Lent.{fixedIn, movingIn}
+use Rattle.machine.specs.Filling.{roundsIn, CanRound}
+use Rattle.machine.proofs.Recounted.{recount-can}
+use Rattle.machine.proofs.Opened.{close-can}
+use Rattle.drafts.specs.declared.Place.{Place}
+use Rattle.drafts.specs.Drafting.{Desk, Drafted, Leads, whole, readAll}
+use Rattle.reading.specs.Tests.{Begun}
+use Rattle.reading.specs.Clearing.{deskIn, restZeroed}
+use Rattle.reading.specs.Finishing.{Finished, finishing, tidyClauses, tidyMoving, turned, laidOut, countedOut, countsAt, finished, CanFinish}
+use Rattle.reading.proofs.Tests.{passed-read}
+use Rattle.reading.proofs.Cleared.{bare-back, bare-back-from}
+use Rattle.reading.proofs.Fresh.{fresh-valid, fresh-held, fresh-values, fresh-rounds, fresh-can-round, fresh-ready, freshCounts, fresh-walking, fresh-outcome}
+
+-- what is asked of tables is asked of those that are equal to them
+round-by : {top T C L T′ C′ L′ : ℕ} {ss ls ss′ ls′ os oc cu : List ℕ} → T ≡ T′ → C ≡ C′ → L ≡ L′ → ss ≡ ss′ → ls ≡ ls′
+    → CanRound top T′ C′ L′ ss′ ls′ os oc cu → CanRound top T C L ss ls os oc cu
+round-by et ec el es en h = rw (et, ec, el, es, en) h
+
+recount-by : {top C T C′ T′ : ℕ} {ws ss ls ss′ ls′ : List ℕ} {m m′ : Moving} → C ≡ C′ → T ≡ T′ → ss ≡ ss′ → ls ≡ ls′ → m ≡ m′
+    → CanRecount top C′ T′ (view ws ss′ ls′) (m′ .tallies) → CanRecount top C T (view ws ss ls) (m .tallies)
+recount-by ec et es en em h = rw (ec, et, es, en, em) h
+
+-- the tables w of a draft of the text, made in the lent tables t; H homes of names
+module _ (lim : Limits) (text : List ℕ) (t : Tables) (b : Begun lim text t) (H : ℕ) (slots-fit : H + lim .terms + 1 ≤ lim .clauses) (w : Desk) (p : Place)
+    (l : Leads (readAll lim text) whole H lim (deskIn t) w p) where
+  abbrev f : File
+  f = record { names = l .draft .names; clauses = l .draft .clauses }
+
+  abbrev s : State
+  s = asRead f
+
+  abbrev h : Tables
+  h = holding lim s t
+
+  abbrev x : Fixed
+  x = fixed (w .starts) (w .literals) (t .occurrenceStarts) (t .occurrences)
+
+  abbrev m : Moving
+  m = moving (t .values) (tallies (t .trues) (w .stamps) (t .uncovered) (w .slots) 0)
+
+  drafted : Drafted H lim (deskIn t) w p (l .draft)
+  drafted = l .drafted
+
+  proper : Proper lim f
+  proper = reading-proper lim text f (passed-read lim text (b .passed) ∙ l .is)
+
+  valid : Valid lim s
+  valid = fresh-valid lim t (b .full) (b .bare) f proper
+
+  -- ---- the tables of the draft, once what it used on its way is cleared
+
+  names-are : w .names ≡ h .names
+  unfolding inUse asRead afresh
+  names-are = fresh-held lim t (b .full) (b .bare) f proper Names (drafted .names-are)
+
+  starts-are : w .starts ≡ h .starts
+  unfolding inUse asRead afresh
+  starts-are = fresh-held lim t (b .full) (b .bare) f proper Starts (drafted .starts-are)
+
+  literals-are : restZeroed (lim .literals) (p .from) (w .literals) ≡ h .literals
+  unfolding restZeroed inUse asRead afresh fullSizes sizes
+  literals-are =
+      let n = padded-length (lim .literals) (flatten (f .clauses)) (omega (arith, flatten-length (f .clauses), proper .few-literals)) in
+      ap (λ (xs : List ℕ). over (padded (lim .literals) xs) (w .literals)) (drafted .kept-are)
+      ∙ ap (λ (r : List ℕ). padded (lim .literals) (flatten (f .clauses)) ++ r)
+      (ap (λ (k : ℕ). drop k (w .literals)) n ∙ drafted .beyond .literals-beyond ∙ ap (λ (k : ℕ). drop k (t .literals)) (sym n))
+      ∙ sym (holding-at lim s t Literals ∙ ap (λ (u : List ℕ). over u (t .literals)) (tables-at lim s Literals))
+
+  stamps-are : zeroed (lim .terms) (w .stamps) ≡ t .breaks
+  unfolding fullSizes sizes
+  stamps-are = bare-back lim t (b .bare) Breaks (b .full) (w .stamps) (drafted .ready .stamps-room) (drafted .beyond .stamps-beyond)
+
+  slots-are : zeroed (lim .clauses) (w .slots) ≡ t .places
+  unfolding fullSizes sizes
+  slots-are =
+      bare-back-from lim t (b .bare) Places (b .full) (H + lim .terms + 1) slots-fit (w .slots) (omega (arith, drafted .ready .indexed .room))
+      (drafted .beyond .slots-beyond)
+
+  -- ---- the literals turned round
+
+  rounds-are : roundsIn (p .terms) (p .clauses) (w .starts) (restZeroed (lim .literals) (p .from) (w .literals)) ≡ turnedRound f
+  rounds-are = rw (drafted .terms-are, drafted .clauses-are, starts-are, literals-are) (fresh-rounds lim t (b .full) (b .bare) f proper)
+
+  laid-out : laidOut lim p x ≡ fixedIn h
+  unfolding laidOut turned tidyClauses inUse asRead afresh
+  laid-out =
+      let os = fresh-held lim t (b .full) (b .bare) f proper OccurrenceStarts (ap (λ (r : List (List ℕ)). over (startsFrom 0 r) (t .occurrenceStarts)) rounds-are) in
+      let oc = fresh-held lim t (b .full) (b .bare) f proper Occurrences (ap (λ (r : List (List ℕ)). over (flatten r) (t .occurrences)) rounds-are) in
+      λ i. fixed (starts-are i) (literals-are i) (os i) (oc i)
+
+  tidied : tidyMoving lim m ≡ movingIn 0 t
+  unfolding tidyMoving
+  tidied = λ i. moving (t .values) (tallies (t .trues) (stamps-are i) (t .uncovered) (slots-are i) 0)
+
+  -- ---- the counts, and all of it; top is 2 to the width of an entry
+  module _ (top : ℕ) (fc : lim .clauses + 1 < top) (ft : 2 * lim .terms < top) (fl : lim .literals < top) (cursors-fit : 2 * lim .terms ≤ lim .clauses) where
+    abbrev counts : Moving
+    counts = freshCounts lim t (b .full) (b .bare) f proper top fc ft fl
+
+    terms-are : p .terms ≡ length (s .values)
+    unfolding asRead afresh
+    terms-are = drafted .terms-are ∙ sym (valid .one-each)
+
+    counted-out : countedOut lim p x m ≡ counts
+    unfolding countedOut
+    counted-out = λ i. recounted (drafted .clauses-are i) (terms-are i) (laid-out i) (tidied i)
+
+    walking : Walking top s (fixedIn h) counts
+    walking = fresh-walking lim t (b .full) (b .bare) f proper top fc ft fl
+
+    pub can-finish : CanFinish top lim p x m
+    unfolding tidyClauses asRead afresh
+    can-finish =
+        let d = drafted in
+        record {
+          few-terms = d .ready .few-terms;
+          few-clauses = omega (arith, d .clauses-are, d .few-clauses);
+          few-literals = omega (arith, d .from-is, proper .few-literals);
+          room = d .ready .literals-room;
+          rounds =
+              round-by (d .terms-are) (d .clauses-are) (d .from-is) starts-are literals-are
+              (fresh-can-round lim t (b .full) (b .bare) f proper top fc fl cursors-fit);
+          recounts =
+              recount-by (d .clauses-are) terms-are starts-are literals-are tidied
+              (recount-can top f (s .values) (fixedIn h) (movingIn 0 t) (fresh-ready lim t (b .full) (b .bare) f proper top fc ft fl));
+          closes =
+              subst₂ (λ (n : ℕ) (k : Moving). CanClose n (k .tallies .trues) (k .tallies .uncovered .places)) (sym (d .clauses-are)) (sym counted-out)
+              (close-can top s (fixedIn h) counts _ walking);
+          few-uncovered =
+              subst (λ (k : Moving). k .tallies .uncovered .number ≤ lim .clauses) (sym counted-out)
+              (omega (arith, walking .places .fits, proper .few-clauses));
+        }
+
+    finished-is : finished lim p x m ≡ finishing (countsOf s) (fixedIn h) (movingIn (length (s .uncovered)) h)
+    unfolding finished countsAt countsOf asRead afresh
+    finished-is =
+        let o = ap (closed (p .clauses)) counted-out ∙ ap (λ (k : ℕ). closed k counts) (drafted .clauses-are)
+        ∙ fresh-outcome lim t (b .full) (b .bare) f proper top fc ft fl in
+        let n = ap (λ (k : Moving). k .tallies .uncovered .number) counted-out ∙ walking .number in
+        λ i. finishing (record { terms = drafted .terms-are i; clauses = drafted .clauses-are i; literals = drafted .from-is i; uncovered = n i }) (laid-out i) (o i)
+
+    -- what the reading answers and leaves
+    module _ {r : Counts} {y : Fixed} {v : Moving} (e : finishing r y v ≡ finished lim p x m) where
+      ended : finishing r y v ≡ finishing (countsOf s) (fixedIn h) (movingIn (length (s .uncovered)) h)
+      ended = e ∙ finished-is
+
+      pub whole-answer : R.Accepted r ≡ readLeaves lim t (readAll lim text) .answer
+      unfolding readLeaves
+      whole-answer = ap (λ (o : Finished). R.Accepted (o .counts)) ended ∙ sym (ap (λ q. readLeaves lim t q .answer) (l .is))
+
+      pub whole-tables : lent (w .names) (v .words) (y .starts) (y .literals) (y .occurrenceStarts) (y .occurrences) (v .tallies .trues) (v .tallies .breaks)
+          (v .tallies .uncovered .list) (v .tallies .uncovered .places) ≡ readLeaves lim t (readAll lim text) .tables
+      unfolding readLeaves
+      whole-tables =
+          let g = ended in
+          let n = names-are in
+          let q : lent (w .names) (v .words) (y .starts) (y .literals) (y .occurrenceStarts) (y .occurrences) (v .tallies .trues) (v .tallies .breaks)
+          (v .tallies .uncovered .list) (v .tallies .uncovered .places) ≡ h =
+          (λ i. lent (n i) (g i .moved .words) (g i .clauses .starts) (g i .clauses .literals) (g i .clauses .occurrenceStarts) (g i .clauses .occurrences)
+          (g i .moved .tallies .trues) (g i .moved .tallies .breaks) (g i .moved .tallies .uncovered .list) (g i .moved .tallies .uncovered .places)) in
+          q ∙ sym (ap (λ q. readLeaves lim t q .tables) (l .is))

@@ -1,0 +1,3 @@
+-- The functions' proofs stand beside their names; the laws they cite are here.
+pub mod Stamps
+pub mod Takes
