@@ -1,5 +1,6 @@
 /*
- * Readings of random clause texts through ngi_read and through the plain C version. LITERALS are at least as many as TERMS.
+ * Readings of clause texts through ngi_read and through the plain C version. The texts are random, with LITERALS at least as many as TERMS;
+ * one term in one clause stands for a line of one literal, LITERALS times.
  *
  *   readings check TERMS CLAUSES LITERALS                 gives both the text, as it is and with a byte changed; the status is 0 where
  *                                                         answers and tables are the same throughout, and the text has these counts
@@ -54,6 +55,15 @@ static int stands(const uint32_t *drawn, uint32_t from, uint32_t to, uint32_t te
         if (drawn[at] == term)
             return 1;
     return 0;
+}
+
+/* One literal over and over: all but the first are skipped. */
+static void make_repeats(uint32_t literals)
+{
+    for (uint32_t at = 0; at < literals; at++) {
+        put('!');
+        put(at + 1 < literals ? ' ' : '\n');
+    }
 }
 
 /* Clauses are as equally long as can be. At equal distances the terms stand in order, so that none is missing; the others are drawn. */
@@ -112,7 +122,7 @@ static ngi_read_answer read_by_both(void)
 static int check(uint32_t terms, uint32_t clauses, uint32_t literals)
 {
     ngi_read_answer answer = read_by_both();
-    if (answer.result != 1 || answer.terms != terms || answer.clauses != clauses || answer.literals != literals)
+    if (answer.result != 1 || answer.terms != terms || answer.clauses != clauses || answer.literals != (terms == 1 ? 1 : literals))
         fail("the text is refused, or has other counts");
     for (int changes = 0; changes < CHANGES_CHECKED; changes++) {
         uint8_t *byte = &text[random_below(text_length)], before = *byte;
@@ -145,7 +155,9 @@ static int time_both(void)
 
 int main(int count, char **words)
 {
-    if (count >= 5)
+    if (count >= 5 && number(words[2]) == 1)
+        make_repeats(number(words[4]));
+    else if (count >= 5)
         make_text(number(words[2]), number(words[3]), number(words[4]));
     if (count == 5 && strcmp(words[1], "check") == 0)
         return check(number(words[2]), number(words[3]), number(words[4]));

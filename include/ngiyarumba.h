@@ -14,13 +14,16 @@ extern "C" {
 #define NGI_CLAUSES 8192
 #define NGI_LITERALS 16384
 
+/* The most bytes in one clause text. */
+#define NGI_TEXT 65536
+
 /* The most flips in one list. */
 #define NGI_LIST 65536
 
 /*
  * The ten tables that a caller lends, in the order in which every function takes them, each as a pointer and a length in entries.
  * Terms and clauses are numbered from 0; term k's literal is 2k, its negation 2k + 1. Entries past those in use are 0 up to the full size.
- * A table may be longer than its full size: what lies beyond is never read or written. No pointer is null, a table of length 0 has one too,
+ * A table may be longer than its full size: what lies beyond is never read or written. No pointer is null, what has length 0 has one too,
  * and what is lent in one call does not overlap.
  */
 #define NGI_NAMES_SIZE NGI_TERMS                       /* names by term: byte 0 lowest, unused bytes 0 */
@@ -37,11 +40,45 @@ extern "C" {
 /* Why a call was refused. */
 enum {
     NGI_NO_REASON = 0,
-    NGI_TABLE_TOO_SHORT = 1,  /* a lent table is shorter than its full size */
-    NGI_TABLES_DISAGREE = 12, /* no clause stands, or some count or entry of a table is not what the others say */
-    NGI_UNKNOWN_TERM = 13,    /* a flip list names a term not below the term count */
-    NGI_LIST_TOO_LONG = 14    /* a flip list longer than NGI_LIST */
+    NGI_TABLE_TOO_SHORT = 1,   /* a lent table is shorter than its full size */
+    NGI_TEXT_TOO_LONG = 2,     /* a text longer than NGI_TEXT */
+    NGI_TEXT_CUT = 3,          /* a text that is not empty and does not end with byte 10 */
+    NGI_BYTE_NOT_ALLOWED = 4,  /* a byte that may not stand there */
+    NGI_NINTH_BYTE = 5,        /* a name's ninth byte */
+    NGI_TOO_MANY_TERMS = 6,    /* a new term when NGI_TERMS are known */
+    NGI_TOO_MANY_LITERALS = 7, /* a literal when NGI_LITERALS are held */
+    NGI_TOO_MANY_CLAUSES = 8,  /* a kept line when NGI_CLAUSES are held */
+    NGI_NO_CLAUSE = 9,         /* no line was kept */
+    NGI_TABLES_DISAGREE = 12,  /* no clause stands, or some count or entry of a table is not what the others say */
+    NGI_UNKNOWN_TERM = 13,     /* a flip list names a term not below the term count */
+    NGI_LIST_TOO_LONG = 14     /* a flip list longer than NGI_LIST */
 };
+
+/* The answer to a reading. */
+typedef struct {
+    uint32_t result; /* 1 accepted, 0 refused */
+    uint32_t reason; /* NGI_NO_REASON where it was accepted */
+    uint32_t line;   /* of the fault, counted from 1, for reasons 4 to 8; else 0 */
+    uint32_t terms, clauses, literals, uncovered; /* the four counts; all 0 where it was refused */
+} ngi_read_answer;
+
+/*
+ * Reads clause text, one clause to a line, into the tables, whatever they held. An accepted reading leaves every value 0, true counts, break
+ * counts, uncovered list and places worked out for that, the list in rising clause order, and 0 in the entries past those in use, up to the
+ * full sizes. A reading refused for reason 1 changes nothing; refused for another, it leaves 0 in every entry up to the full sizes. Reasons
+ * are tested in the order 1, 2, 3, then the text from the left, up to the first fault (4 to 8), whose line is told, then 9.
+ */
+ngi_read_answer ngi_read(const uint8_t *text, size_t text_length,
+                         uint64_t *names, size_t names_length,
+                         uint32_t *values, size_t values_length,
+                         uint16_t *starts, size_t starts_length,
+                         uint16_t *literals_table, size_t literals_table_length,
+                         uint16_t *occurrence_starts, size_t occurrence_starts_length,
+                         uint16_t *occurrences, size_t occurrences_length,
+                         uint16_t *true_counts, size_t true_counts_length,
+                         uint16_t *break_counts, size_t break_counts_length,
+                         uint16_t *uncovered_list, size_t uncovered_list_length,
+                         uint16_t *places, size_t places_length);
 
 /* The answer to a flip list. */
 typedef struct {

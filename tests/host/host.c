@@ -1,13 +1,14 @@
 /*
  * Calls the library for programs that cannot link it: each request on standard input is one call, its answer goes to standard output.
- * Numbers are little-endian; a request begins with its opcode, and everything but table and list entries is 32 bits wide.
+ * Numbers are little-endian; a request begins with its opcode, and everything but entries and bytes of text is 32 bits wide.
  *
  *   opcode  request                                                       answer
  *   1 lend  the lengths of the ten tables, then the entries of each       none: the tables are kept for the calls that follow
  *   2 flip  the list's length, its entries, four counts                   status, the six numbers of ngi_flip_answer, list, ten tables
+ *   3 read  the text's length, its bytes                                  status, the seven numbers of ngi_read_answer, text, ten tables
  *
  * Guards stand before and after all that is lent. The status is 0 where every guard is as it was, else one more than the number of the
- * first table that has lost one, or 11 for the list. The end of the input ends the program.
+ * first table that has lost one, or 11 for the list or the text. The end of the input ends the program.
  */
 #include <stdint.h>
 #include <stdlib.h>
@@ -15,7 +16,7 @@
 
 #include "ngiyarumba.h"
 
-enum { LEND = 1, FLIP = 2 };
+enum { LEND = 1, FLIP = 2, READ = 3 };
 enum { TABLES = 10, GUARD = 64 };
 enum { INPUT_CUT = 1, OUTPUT_CLOSED = 2, NO_MEMORY = 3, UNKNOWN_OPCODE = 4 };
 
@@ -27,7 +28,7 @@ struct lent {
 
 static struct lent tables[TABLES] = {{0, 0, 8}, {0, 0, 4}, {0, 0, 2}, {0, 0, 2}, {0, 0, 2},
                                      {0, 0, 2}, {0, 0, 2}, {0, 0, 2}, {0, 0, 2}, {0, 0, 2}};
-static struct lent list = {0, 0, 2};
+static struct lent list = {0, 0, 2}, text = {0, 0, 1};
 
 /* --- input and output --- */
 
@@ -120,12 +121,13 @@ static void give_entries(const struct lent *lent)
     give(entries(lent), lent->count * lent->width);
 }
 
-static uint32_t status(void)
+/* Of the tables and of what was lent beside them. */
+static uint32_t status(const struct lent *beside)
 {
     for (uint32_t table = 0; table < TABLES; table++)
         if (!guards_stand(&tables[table]))
             return table + 1;
-    return guards_stand(&list) ? 0 : TABLES + 1;
+    return guards_stand(beside) ? 0 : TABLES + 1;
 }
 
 /* --- requests --- */
@@ -138,12 +140,12 @@ static void lend(void)
         take_entries(&tables[table]);
 }
 
-static void give_answer(const void *answer, size_t size)
+static void give_answer(const void *answer, size_t size, const struct lent *beside)
 {
-    uint32_t found = status();
+    uint32_t found = status(beside);
     give(&found, sizeof found);
     give(answer, size);
-    give_entries(&list);
+    give_entries(beside);
     for (int table = 0; table < TABLES; table++)
         give_entries(&tables[table]);
 }
@@ -159,7 +161,17 @@ static void flip(void)
     ngi_flip_answer answer =
         ngi_flip(LENT(list), counts[0], counts[1], counts[2], counts[3], LENT(tables[0]), LENT(tables[1]), LENT(tables[2]), LENT(tables[3]),
                  LENT(tables[4]), LENT(tables[5]), LENT(tables[6]), LENT(tables[7]), LENT(tables[8]), LENT(tables[9]));
-    give_answer(&answer, sizeof answer);
+    give_answer(&answer, sizeof answer, &list);
+}
+
+static void read_text(void)
+{
+    renew(&text, take_number());
+    take_entries(&text);
+    ngi_read_answer answer =
+        ngi_read(LENT(text), LENT(tables[0]), LENT(tables[1]), LENT(tables[2]), LENT(tables[3]), LENT(tables[4]), LENT(tables[5]),
+                 LENT(tables[6]), LENT(tables[7]), LENT(tables[8]), LENT(tables[9]));
+    give_answer(&answer, sizeof answer, &text);
 }
 
 int main(void)
@@ -172,6 +184,9 @@ int main(void)
             break;
         case FLIP:
             flip();
+            break;
+        case READ:
+            read_text();
             break;
         default:
             exit(UNKNOWN_OPCODE);

@@ -1,74 +1,42 @@
 -- A reading as a call: what is left where it is accepted and where it is refused, which reason is given exactly when, and that what stood
 -- before makes no difference. Assumes nothing.
-use Prim.Native.Nat.{ℕ, _+_, _-_, _*_, _≤_, _<_}
+use Prim.Native.Nat.{ℕ, _+_, _-_, _≤_, _<_}
 use mathlib.Core.Logic.{_↔_, _⊎_, inl, inr}
-use mathlib.Core.Path.{_≡_, refl, ap, ap₂, sym, subst, subst₂, _∙_}
+use mathlib.Core.Path.{_≡_, refl, ap, sym, subst, subst₂, _∙_}
 use mathlib.Core.Bool.{Bool, true, false, false≢true, true≢false}
 use mathlib.Core.List.{List, [], _∷_}
 use native.Mathlib.Omega.{arith}
-use lib.ListN.{length, getD, take, drop, length-replicate, getD-replicate, replicate-append-replicate, List·getD-append}
-use lib.Seq.{ext-getD}
-use lib.Dec.{eqb, ltb}
-use borrow.Author.Tests.{le-ltb, lt-ltb, ltb-true, eqb-true, eqb-false, ne-eqb, not-true}
+use lib.ListN.{length, getD, take, drop, length-replicate, getD-replicate, List·getD-append}
+use lib.Dec.{ltb}
+use borrow.Author.Tests.{le-ltb, lt-ltb, ltb-true, eqb-false, ne-eqb, not-true}
 use Rattle.scan.specs.Scan.{scan, openEnd}
 use Rattle.scan.proofs.Laws.{getD-any}
-use Rattle.words.specs.Words.{wordCount}
 use Rattle.written.specs.declared.Counts.{Counts}
 use Rattle.written.specs.declared.Reason.the-variants.{ShortTable, NoClause}
 use Rattle.written.specs.declared.Fault.{Fault}
 use Rattle.written.specs.declared.Read.{Read}
 use Rattle.written.specs.declared.Read.the-variants as R
-use Rattle.written.specs.Lists.{all, zeros, padded}
+use Rattle.written.specs.Lists.{zeros}
 use Rattle.written.specs.Limits.{Limits}
 use Rattle.written.specs.Reasons.{numberOf, fault}
 use Rattle.written.specs.Clauses.{File, State, afresh, asRead}
 use Rattle.written.specs.Reading.{Reading, accepted, refused, readText}
-use Rattle.written.specs.Tables.{Tables, each, sizes, fullSizes, areFull, wordOf, wordsOf, inUse, countsOf, holding, cleared, noCounts}
+use Rattle.written.specs.Tables.{Tables, each, sizes, fullSizes, areFull, countsOf, holding, cleared, noCounts}
 use Rattle.written.specs.Agreement.{stateIn, agree}
 use Rattle.written.specs.Outcomes.{Leaves, unchanged, readLeaves, readingOf, readValues}
 use Rattle.laws.specs.Valid.{Valid}
 use Rattle.laws.specs.ReadCalls.{Filled, LeftAlone, Emptied, Stopped, reasonGiven, countsGiven, Given}
 use Rattle.laws.proofs.Basics.{by-cases, by-lt, both, both-first, both-second}
-use Rattle.laws.proofs.All.{all-take, all-drop, all-zeros}
-use Rattle.laws.proofs.Values.{word-at, words-length}
 use Rattle.laws.proofs.Each.{each-at}
 use Rattle.laws.proofs.Each.Table.{Values, Starts}
-use Rattle.laws.proofs.Sizes.{valid-fit, sizes-fit}
 use Rattle.laws.proofs.Holding.{tables-at, cleared-at, holding-full, cleared-full, holding-take, cleared-take, holding-beyond, cleared-beyond, holding-by, cleared-by}
 use Rattle.laws.proofs.Back.{holding-back}
 use Rattle.laws.proofs.Points.{Points, agree-points}
 use Rattle.laws.proofs.Agrees.{holding-agrees}
 use Rattle.laws.proofs.Turns.{namesLine}
-use Rattle.laws.proofs.Readings.{reading-valid}
+use Rattle.laws.proofs.Readings.{reading-valid, file-words}
 use Rattle.laws.proofs.Faults.{Placed, refusal-line}
 use Rattle.laws.proofs.Refusals.{fails-late, stops-exactly}
-
--- ---- values of 0
-
-word-zero : (bs : List ℕ) → all (λ b. eqb b 0) bs ≡ true → wordOf bs ≡ 0
-unfolding wordOf
-word-zero [] h = refl
-word-zero (b ∷ bs) h = ap₂ {C = ℕ} (λ x w. x + 2 * w) (eqb-true b 0 (both-first (eqb b 0) _ h)) (word-zero bs (both-second (eqb b 0) _ h))
-
-words-zero : (n : ℕ) → wordsOf (zeros n) ≡ zeros (wordCount n)
-words-zero n =
-    let e = words-length (zeros n) ∙ ap wordCount (length-replicate n 0) in
-    ext-getD 0 (wordsOf (zeros n)) (zeros (wordCount n)) (e ∙ sym (length-replicate (wordCount n) 0))
-    (λ k l.
-    word-at (zeros n) k
-    ∙ word-zero (take 32 (drop (32 * k) (zeros n))) (all-take _ 32 (drop (32 * k) (zeros n)) (all-drop _ (32 * k) (zeros n) (all-zeros (λ b. eqb b 0) refl n)))
-    ∙ sym (getD-replicate (wordCount n) k 0 0 (omega arith)))
-
-padded-zeros : (m n : ℕ) → m ≤ n → padded n (zeros m) ≡ zeros n
-padded-zeros m n h =
-    let e : m + (n - length (zeros m)) ≡ n = omega (arith, length-replicate {A = ℕ} m 0) in
-    replicate-append-replicate m (n - length (zeros m)) 0 ∙ ap zeros e
-
-file-words : (lim : Limits) (f : File) → Valid lim (asRead f) → padded (fullSizes lim .values) (inUse (asRead f) .values) ≡ zeros (fullSizes lim .values)
-unfolding inUse asRead afresh sizes countsOf
-file-words lim f v =
-    let n = length (f .names) in
-    ap (padded (fullSizes lim .values)) (words-zero n) ∙ padded-zeros (wordCount n) (fullSizes lim .values) (sizes-fit lim (countsOf (asRead f)) (valid-fit lim (asRead f) v) Values)
 
 -- ---- tables in which no clause stands
 

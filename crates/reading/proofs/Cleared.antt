@@ -5,7 +5,7 @@ use mathlib.Core.List.{List, _++_, append-assoc}
 use Prim.Native.Nat.{ℕ, suc, _+_, _-_, _≤_, _<_}
 use native.Mathlib.Omega.{arith}
 use lib.ListN.{length, getD, set, take, drop, length-drop, length-replicate, getD-replicate, List·getD-append}
-use lib.Seq.{take-all, length-take-le, drop-append-le, drop-drop, paste, paste-zero, paste-suc}
+use lib.Seq.{drop-drop, take-all, length-take-le, drop-append-le, paste, paste-zero, paste-suc}
 use Rattle.written.specs.Lists.{zeros, padded}
 use Rattle.written.specs.Limits.{Limits}
 use Rattle.written.specs.Tables.{Tables, fullSizes, areFull, over, cleared}

@@ -1,18 +1,17 @@
 -- A draft finished, put together from what the calls gave. Assumes nothing.
-use mathlib.Core.Path.{_≡_, ap, sym, _∙_, subst, subst₂}
+use mathlib.Core.Path.{_≡_, ap, sym, _∙_, subst}
 use mathlib.Core.List.{List, flatten}
 use Prim.Native.Nat.{ℕ, _≤_}
-use Rattle.written.specs.declared.Counts.{Counts}
 use Rattle.written.specs.Limits.{Limits}
 use Rattle.written.specs.Tables.{startsFrom, over}
 use Rattle.machine.specs.Tallies.{Tallies, tallies}
-use Rattle.machine.specs.Moving.{Fixed, fixed, Moving, moving, View, view}
-use Rattle.machine.specs.Passes.{zeroed, rewritten, restPlace, withPlaces, closed, CanClose, blank, counted, recounted, CanRecount}
+use Rattle.machine.specs.Moving.{Fixed, fixed, Moving, moving, view}
+use Rattle.machine.specs.Passes.{zeroed, rewritten, restPlace, closed, CanClose, blank, counted, recounted, CanRecount}
 use Rattle.machine.specs.Filling.{roundsIn, CanRound}
 use Rattle.machine.proofs.Calls.{is-closed}
 use Rattle.drafts.specs.declared.Place.{Place}
 use Rattle.reading.specs.Clearing.{restZeroed}
-use Rattle.reading.specs.Finishing.{Finished, finishing, tidyClauses, tidyMoving, turned, laidOut, countedOut, countsAt, finished, CanFinish}
+use Rattle.reading.specs.Finishing.{finishing, tidyClauses, tidyMoving, turned, laidOut, countedOut, countsAt, finished, CanFinish}
 
 -- what was cleared
 module _ (top : ℕ) (lim : Limits) (p : Place) (x : Fixed) (w : Moving) (h : CanFinish top lim p x w) {ls bs ps : List ℕ}

@@ -1,22 +1,17 @@
--- A proper file laid down in tables that were cleared: its literals can be turned round and its counts worked out, and then the tables are
--- those written for it at values of 0. Assumes nothing.
+-- A proper file laid down in cleared tables: turned round and counted, it leaves the tables written for it at values of 0. Assumes nothing.
 use mathlib.Core.Path.{_≡_, refl, ap, sym, _∙_}
 use mathlib.Core.Bool.{true}
 use mathlib.Core.List.{List}
-use Prim.Native.Nat.{ℕ, zero, suc, _+_, _*_, _-_, _≤_, _<_}
+use Prim.Native.Nat.{ℕ, zero, _+_, _*_, _-_, _≤_, _<_}
 use native.Mathlib.Omega.{arith}
-use lib.ListN.{length, getD, take, length-replicate, getD-replicate, replicate-append-replicate}
-use lib.Seq.{ext-getD}
-use Rattle.words.specs.Words.{wordCount}
-use Rattle.written.specs.Lists.{total, zeros, padded}
+use lib.ListN.{length, getD, length-replicate}
+use Rattle.written.specs.Lists.{total}
 use Rattle.written.specs.Limits.{Limits}
-use Rattle.written.specs.Clauses.{File, State, occurrencesOf, afresh, asRead}
-use Rattle.written.specs.Tables.{Tables, sizes, fullSizes, areFull, turnedRound, wordOf, wordsOf, inUse, over, countsOf, holding, cleared}
+use Rattle.written.specs.Clauses.{File, State, afresh, asRead}
+use Rattle.written.specs.Tables.{Tables, sizes, fullSizes, areFull, turnedRound, inUse, over, countsOf, holding, cleared}
 use Rattle.written.specs.Agreement.{fileIn, stateIn}
 use Rattle.laws.specs.Valid.{Proper, Valid}
-use Rattle.laws.proofs.Padding.{drop-zeros}
 use Rattle.laws.proofs.Parts.{parts-back}
-use Rattle.laws.proofs.Values.{words-length, word-at}
 use Rattle.laws.proofs.Each.{Table, at}
 use Rattle.laws.proofs.Each.Table.{Values, Starts, Literals, OccurrenceStarts, Occurrences, Trues, Breaks, Uncovered, Places}
 use Rattle.laws.proofs.Counted.{listed-few}
@@ -24,7 +19,7 @@ use Rattle.laws.proofs.Sizes.{in-use, valid-fit, sizes-fit}
 use Rattle.laws.proofs.Holding.{full-at, tables-at, holding-at, holding-length}
 use Rattle.laws.proofs.Points.{agree-points}
 use Rattle.laws.proofs.Agrees.{holding-agrees}
-use Rattle.laws.proofs.Readings.{as-read-valid}
+use Rattle.laws.proofs.Readings.{as-read-valid, file-words}
 use Rattle.machine.specs.Tallies.{SameSizes}
 use Rattle.machine.specs.Moving.{Moving}
 use Rattle.machine.specs.Passes.{closed, recounted}
@@ -38,30 +33,6 @@ use Rattle.machine.proofs.Sizes.{sizes-trans, recounted-sizes}
 use Rattle.machine.proofs.Standings.{kept-trans}
 use Rattle.machine.proofs.Tallied.{talliesFor, closed-outcome}
 use Rattle.reading.proofs.Cleared.{bare-at, bare-over, bare-zero, bare-past}
-
--- ---- values of 0
-
-word-zeros : (j m : ℕ) → wordOf (take j (zeros m)) ≡ 0
-unfolding wordOf
-word-zeros zero m = refl
-word-zeros (suc j) zero = refl
-word-zeros (suc j) (suc m) = omega (arith, word-zeros j m)
-
-words-zeros : (n : ℕ) → wordsOf (zeros n) ≡ zeros (wordCount n)
-words-zeros n =
-    let m = length-replicate {A = ℕ} n 0 in
-    let many = length-replicate {A = ℕ} (wordCount n) 0 in
-    let e : length (wordsOf (zeros n)) ≡ wordCount n = words-length (zeros n) ∙ ap wordCount m in
-    ext-getD 0 _ _ (e ∙ sym many)
-    (λ k l.
-    word-at (zeros n) k ∙ ap (λ (zs : List ℕ). wordOf (take 32 zs)) (drop-zeros (32 * k) n) ∙ word-zeros 32 (n - 32 * k)
-    ∙ sym (getD-replicate (wordCount n) k 0 0 (omega arith)))
-
-padded-zeros : (n k : ℕ) → k ≤ n → padded n (zeros k) ≡ zeros n
-padded-zeros n k h =
-    let m = length-replicate {A = ℕ} k 0 in
-    let e : k + (n - length (zeros k)) ≡ n = omega arith in
-    replicate-append-replicate k (n - length (zeros k)) 0 ∙ ap zeros e
 
 -- ---- a file in cleared tables
 
@@ -93,17 +64,10 @@ module _ (lim : Limits) (t : Tables) (full : areFull lim t ≡ true) (bare : cle
       ∙ bare-past lim t bare k (at k (inUse s)) j (use-few k) (omega (arith, in-use lim s fresh-valid k)))
 
   -- values of 0 are words of 0
-  pub fresh-values : t .values ≡ h .values
-  unfolding inUse asRead afresh
+  fresh-values : t .values ≡ h .values
   fresh-values =
-      let k = wordCount (length (f .names)) in
-      let z = words-zeros (length (f .names)) in
-      let few = use-few Values in
-      let m = length-replicate {A = ℕ} k 0 in
-      let e = ap length z in
-      fresh-held Values
-      (bare-at lim t bare Values ∙ ap (λ (xs : List ℕ). over xs (t .values)) (sym (padded-zeros (fullSizes lim .values) k (omega arith)))
-      ∙ sym (bare-over lim t bare Values (zeros k) (omega arith)) ∙ ap (λ (xs : List ℕ). over xs (t .values)) (sym z))
+      bare-at lim t bare Values
+      ∙ sym (holding-at lim s t Values ∙ ap (λ (u : List ℕ). over u (t .values)) (tables-at lim s Values ∙ file-words lim f fresh-valid))
 
   -- the clauses are had back, and the literals turned round from the tables are those of the file
   clauses-back : clausesIn (length (f .clauses)) (h .starts) (h .literals) ≡ f .clauses

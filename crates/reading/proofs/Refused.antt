@@ -1,38 +1,51 @@
--- Tables that were cleared: a draft can be begun in them, and where it is refused, its tables cleared again are what they were. Assumes nothing.
-use mathlib.Core.Path.{_≡_, refl, ap, sym, _∙_}
+-- Tables that were cleared: a draft can be begun in them, and where a text is refused they are 0 still, or cleared again. Assumes nothing.
+use mathlib.Core.Path.{_≡_, ap, sym, _∙_}
 use mathlib.Core.List.{List}
 use Prim.Native.Nat.{ℕ, _+_, _≤_, _<_}
 use native.Mathlib.Omega.{arith}
-use lib.ListN.{length, drop}
+use lib.ListN.{length}
 use Rattle.written.specs.declared.Fault.{Fault}
+use Rattle.written.specs.declared.Reason.{Reason}
 use Rattle.written.specs.declared.Read.the-variants as R
 use Rattle.written.specs.Limits.{Limits}
-use Rattle.written.specs.Reading.{refused}
+use Rattle.written.specs.Reasons.{fault}
+use Rattle.written.specs.Reading.{refused, readText}
 use Rattle.written.specs.Tables.{Tables, lent, sizes, fullSizes}
 use Rattle.written.specs.Outcomes.{readLeaves}
 use Rattle.laws.proofs.Each.Table.{Names, Starts, Literals, Breaks, Places}
 use Rattle.laws.proofs.Holding.{full-at}
 use Rattle.drafts.specs.Drafting.{Desk, desk, Beyond, Blank, readAll}
-use Rattle.reading.specs.Tests.{Begun}
-use Rattle.reading.specs.Clearing.{deskIn, wiped}
-use Rattle.reading.proofs.Tests.{passed-short}
+use Rattle.reading.specs.declared.Tested.the-variants.{Passed, Failed}
+use Rattle.reading.specs.Tests.{textTests}
+use Rattle.reading.specs.Clearing.{Bare, deskIn, wiped}
+use Rattle.reading.proofs.Tests.{failed-read, passed-read, passed-short}
 use Rattle.reading.proofs.Cleared.{bare-zero, bare-back, bare-back-from}
 
--- H homes of names
-module _ (lim : Limits) (text : List ℕ) (t : Tables) (b : Begun lim text t) (H : ℕ) (slots-fit : H + lim .terms + 1 ≤ lim .clauses) where
+-- the text fails a test: nothing is written
+module _ (lim : Limits) (text : List ℕ) (t : Tables) (b : Bare lim t) {r : Reason} (h : textTests lim text ≡ Failed r) where
+  pub failed-answer : R.Refused (fault r) ≡ readLeaves lim t (readText lim text) .answer
+  unfolding readLeaves
+  failed-answer = sym (ap (λ k. readLeaves lim t k .answer) (failed-read lim text h))
+
+  pub failed-tables : t ≡ readLeaves lim t (readText lim text) .tables
+  unfolding readLeaves
+  failed-tables = sym (b .zero) ∙ sym (ap (λ k. readLeaves lim t k .tables) (failed-read lim text h))
+
+-- it passes; H homes of names
+module _ (lim : Limits) (text : List ℕ) (t : Tables) (b : Bare lim t) (passed : textTests lim text ≡ Passed) (H : ℕ) (slots-fit : H + lim .terms + 1 ≤ lim .clauses) where
   pub can-draft : 0 < H → Blank H lim text (deskIn t)
   unfolding fullSizes sizes
   can-draft some =
       record {
-        short = passed-short lim text (b .passed);
+        short = passed-short lim text passed;
         homes-some = some;
         names-room = full-at lim t Names (b .full);
         starts-room = omega (arith, full-at lim t Starts (b .full));
         literals-room = full-at lim t Literals (b .full);
         stamps-room = full-at lim t Breaks (b .full);
         slots-room = omega (arith, slots-fit, full-at lim t Places (b .full));
-        first = bare-zero lim t (b .bare) Starts 0 (omega arith);
-        bare = λ j l. bare-zero lim t (b .bare) Places j (omega (arith, slots-fit));
+        first = bare-zero lim t (b .zero) Starts 0 (omega arith);
+        bare = λ j l. bare-zero lim t (b .zero) Places j (omega (arith, slots-fit));
       }
 
   -- the tables w of a draft, as long as the lent tables
@@ -41,24 +54,24 @@ module _ (lim : Limits) (text : List ℕ) (t : Tables) (b : Begun lim text t) (H
     wiped-back : wiped lim w ≡ deskIn t
     unfolding wiped fullSizes sizes
     wiped-back =
-        let n = bare-back lim t (b .bare) Names (b .full) (w .names) (omega (arith, en, full-at lim t Names (b .full))) (far .names-beyond) in
-        let s = bare-back lim t (b .bare) Starts (b .full) (w .starts) (omega (arith, es, full-at lim t Starts (b .full))) (far .starts-beyond) in
-        let l = bare-back lim t (b .bare) Literals (b .full) (w .literals) (omega (arith, el, full-at lim t Literals (b .full))) (far .literals-beyond) in
-        let m = bare-back lim t (b .bare) Breaks (b .full) (w .stamps) (omega (arith, em, full-at lim t Breaks (b .full))) (far .stamps-beyond) in
-        let o = bare-back-from lim t (b .bare) Places (b .full) (H + lim .terms + 1) slots-fit (w .slots)
+        let n = bare-back lim t (b .zero) Names (b .full) (w .names) (omega (arith, en, full-at lim t Names (b .full))) (far .names-beyond) in
+        let s = bare-back lim t (b .zero) Starts (b .full) (w .starts) (omega (arith, es, full-at lim t Starts (b .full))) (far .starts-beyond) in
+        let l = bare-back lim t (b .zero) Literals (b .full) (w .literals) (omega (arith, el, full-at lim t Literals (b .full))) (far .literals-beyond) in
+        let m = bare-back lim t (b .zero) Breaks (b .full) (w .stamps) (omega (arith, em, full-at lim t Breaks (b .full))) (far .stamps-beyond) in
+        let o = bare-back-from lim t (b .zero) Places (b .full) (H + lim .terms + 1) slots-fit (w .slots)
         (omega (arith, eo, slots-fit, full-at lim t Places (b .full))) (far .slots-beyond) in
         λ i. desk (n i) (s i) (l i) (m i) (o i)
 
     pub refused-tables : {e : Fault} → readAll lim text ≡ refused e → {d : Desk} → d ≡ wiped lim w
         → lent (d .names) (t .values) (d .starts) (d .literals) (t .occurrenceStarts) (t .occurrences) (t .trues) (d .stamps) (t .uncovered) (d .slots)
-        ≡ readLeaves lim t (readAll lim text) .tables
+        ≡ readLeaves lim t (readText lim text) .tables
     unfolding readLeaves
     refused-tables h {d} q =
         let r = q ∙ wiped-back in
         let u : lent (d .names) (t .values) (d .starts) (d .literals) (t .occurrenceStarts) (t .occurrences) (t .trues) (d .stamps) (t .uncovered) (d .slots) ≡ t =
         (λ i. lent (r i .names) (t .values) (r i .starts) (r i .literals) (t .occurrenceStarts) (t .occurrences) (t .trues) (r i .stamps) (t .uncovered) (r i .slots)) in
-        u ∙ sym (b .bare) ∙ sym (ap (λ k. readLeaves lim t k .tables) h)
+        u ∙ sym (b .zero) ∙ sym (ap (λ k. readLeaves lim t k .tables) (passed-read lim text passed ∙ h))
 
-  pub refused-answer : {e : Fault} → readAll lim text ≡ refused e → R.Refused e ≡ readLeaves lim t (readAll lim text) .answer
+  pub refused-answer : {e : Fault} → readAll lim text ≡ refused e → R.Refused e ≡ readLeaves lim t (readText lim text) .answer
   unfolding readLeaves
-  refused-answer h = sym (ap (λ k. readLeaves lim t k .answer) h)
+  refused-answer h = sym (ap (λ k. readLeaves lim t k .answer) (passed-read lim text passed ∙ h))

@@ -1,15 +1,15 @@
 -- A whole draft in tables that were cleared: it can be finished, and then the tables are those written for the file that was read. Assumes nothing.
-use mathlib.Core.Path.{_≡_, refl, ap, sym, _∙_, subst, subst₂}
+use mathlib.Core.Path.{_≡_, ap, sym, _∙_, subst, subst₂}
 use mathlib.Core.List.{List, _++_, flatten}
 use Prim.Native.Nat.{ℕ, _+_, _*_, _≤_, _<_}
 use native.Mathlib.Omega.{arith}
-use lib.ListN.{length, take, drop}
+use lib.ListN.{length, drop}
 use Rattle.written.specs.declared.Counts.{Counts}
 use Rattle.written.specs.declared.Read.the-variants as R
 use Rattle.written.specs.Lists.{padded}
 use Rattle.written.specs.Limits.{Limits}
 use Rattle.written.specs.Clauses.{File, State, afresh, asRead}
-use Rattle.written.specs.Reading.{accepted}
+use Rattle.written.specs.Reading.{accepted, readText}
 use Rattle.written.specs.Tables.{Tables, lent, sizes, fullSizes, startsFrom, turnedRound, inUse, over, countsOf, holding}
 use Rattle.written.specs.Outcomes.{readLeaves}
 use Rattle.laws.specs.Valid.{Proper, Valid}
@@ -28,12 +28,13 @@ use Rattle.machine.proofs.Recounted.{recount-can}
 use Rattle.machine.proofs.Opened.{close-can}
 use Rattle.drafts.specs.declared.Place.{Place}
 use Rattle.drafts.specs.Drafting.{Desk, Drafted, Leads, whole, readAll}
-use Rattle.reading.specs.Tests.{Begun}
-use Rattle.reading.specs.Clearing.{deskIn, restZeroed}
+use Rattle.reading.specs.declared.Tested.the-variants.{Passed}
+use Rattle.reading.specs.Tests.{textTests}
+use Rattle.reading.specs.Clearing.{Bare, deskIn, restZeroed}
 use Rattle.reading.specs.Finishing.{Finished, finishing, tidyClauses, tidyMoving, turned, laidOut, countedOut, countsAt, finished, CanFinish}
 use Rattle.reading.proofs.Tests.{passed-read}
 use Rattle.reading.proofs.Cleared.{bare-back, bare-back-from}
-use Rattle.reading.proofs.Fresh.{fresh-valid, fresh-held, fresh-values, fresh-rounds, fresh-can-round, fresh-ready, freshCounts, fresh-walking, fresh-outcome}
+use Rattle.reading.proofs.Fresh.{fresh-valid, fresh-held, fresh-rounds, fresh-can-round, fresh-ready, freshCounts, fresh-walking, fresh-outcome}
 
 -- what is asked of tables is asked of those that are equal to them
 round-by : {top T C L T′ C′ L′ : ℕ} {ss ls ss′ ls′ os oc cu : List ℕ} → T ≡ T′ → C ≡ C′ → L ≡ L′ → ss ≡ ss′ → ls ≡ ls′
@@ -45,8 +46,8 @@ recount-by : {top C T C′ T′ : ℕ} {ws ss ls ss′ ls′ : List ℕ} {m m′
 recount-by ec et es en em h = rw (ec, et, es, en, em) h
 
 -- the tables w of a draft of the text, made in the lent tables t; H homes of names
-module _ (lim : Limits) (text : List ℕ) (t : Tables) (b : Begun lim text t) (H : ℕ) (slots-fit : H + lim .terms + 1 ≤ lim .clauses) (w : Desk) (p : Place)
-    (l : Leads (readAll lim text) whole H lim (deskIn t) w p) where
+module _ (lim : Limits) (text : List ℕ) (t : Tables) (b : Bare lim t) (passed : textTests lim text ≡ Passed) (H : ℕ)
+    (slots-fit : H + lim .terms + 1 ≤ lim .clauses) (w : Desk) (p : Place) (l : Leads (readAll lim text) whole H lim (deskIn t) w p) where
   abbrev f : File
   f = record { names = l .draft .names; clauses = l .draft .clauses }
 
@@ -65,21 +66,24 @@ module _ (lim : Limits) (text : List ℕ) (t : Tables) (b : Begun lim text t) (H
   drafted : Drafted H lim (deskIn t) w p (l .draft)
   drafted = l .drafted
 
+  read-is : readText lim text ≡ accepted f
+  read-is = passed-read lim text passed ∙ l .is
+
   proper : Proper lim f
-  proper = reading-proper lim text f (passed-read lim text (b .passed) ∙ l .is)
+  proper = reading-proper lim text f read-is
 
   valid : Valid lim s
-  valid = fresh-valid lim t (b .full) (b .bare) f proper
+  valid = fresh-valid lim t (b .full) (b .zero) f proper
 
   -- ---- the tables of the draft, once what it used on its way is cleared
 
   names-are : w .names ≡ h .names
   unfolding inUse asRead afresh
-  names-are = fresh-held lim t (b .full) (b .bare) f proper Names (drafted .names-are)
+  names-are = fresh-held lim t (b .full) (b .zero) f proper Names (drafted .names-are)
 
   starts-are : w .starts ≡ h .starts
   unfolding inUse asRead afresh
-  starts-are = fresh-held lim t (b .full) (b .bare) f proper Starts (drafted .starts-are)
+  starts-are = fresh-held lim t (b .full) (b .zero) f proper Starts (drafted .starts-are)
 
   literals-are : restZeroed (lim .literals) (p .from) (w .literals) ≡ h .literals
   unfolding restZeroed inUse asRead afresh fullSizes sizes
@@ -92,24 +96,24 @@ module _ (lim : Limits) (text : List ℕ) (t : Tables) (b : Begun lim text t) (H
 
   stamps-are : zeroed (lim .terms) (w .stamps) ≡ t .breaks
   unfolding fullSizes sizes
-  stamps-are = bare-back lim t (b .bare) Breaks (b .full) (w .stamps) (drafted .ready .stamps-room) (drafted .beyond .stamps-beyond)
+  stamps-are = bare-back lim t (b .zero) Breaks (b .full) (w .stamps) (drafted .ready .stamps-room) (drafted .beyond .stamps-beyond)
 
   slots-are : zeroed (lim .clauses) (w .slots) ≡ t .places
   unfolding fullSizes sizes
   slots-are =
-      bare-back-from lim t (b .bare) Places (b .full) (H + lim .terms + 1) slots-fit (w .slots) (omega (arith, drafted .ready .indexed .room))
+      bare-back-from lim t (b .zero) Places (b .full) (H + lim .terms + 1) slots-fit (w .slots) (omega (arith, drafted .ready .indexed .room))
       (drafted .beyond .slots-beyond)
 
   -- ---- the literals turned round
 
   rounds-are : roundsIn (p .terms) (p .clauses) (w .starts) (restZeroed (lim .literals) (p .from) (w .literals)) ≡ turnedRound f
-  rounds-are = rw (drafted .terms-are, drafted .clauses-are, starts-are, literals-are) (fresh-rounds lim t (b .full) (b .bare) f proper)
+  rounds-are = rw (drafted .terms-are, drafted .clauses-are, starts-are, literals-are) (fresh-rounds lim t (b .full) (b .zero) f proper)
 
   laid-out : laidOut lim p x ≡ fixedIn h
   unfolding laidOut turned tidyClauses inUse asRead afresh
   laid-out =
-      let os = fresh-held lim t (b .full) (b .bare) f proper OccurrenceStarts (ap (λ (r : List (List ℕ)). over (startsFrom 0 r) (t .occurrenceStarts)) rounds-are) in
-      let oc = fresh-held lim t (b .full) (b .bare) f proper Occurrences (ap (λ (r : List (List ℕ)). over (flatten r) (t .occurrences)) rounds-are) in
+      let os = fresh-held lim t (b .full) (b .zero) f proper OccurrenceStarts (ap (λ (r : List (List ℕ)). over (startsFrom 0 r) (t .occurrenceStarts)) rounds-are) in
+      let oc = fresh-held lim t (b .full) (b .zero) f proper Occurrences (ap (λ (r : List (List ℕ)). over (flatten r) (t .occurrences)) rounds-are) in
       λ i. fixed (starts-are i) (literals-are i) (os i) (oc i)
 
   tidied : tidyMoving lim m ≡ movingIn 0 t
@@ -119,7 +123,7 @@ module _ (lim : Limits) (text : List ℕ) (t : Tables) (b : Begun lim text t) (H
   -- ---- the counts, and all of it; top is 2 to the width of an entry
   module _ (top : ℕ) (fc : lim .clauses + 1 < top) (ft : 2 * lim .terms < top) (fl : lim .literals < top) (cursors-fit : 2 * lim .terms ≤ lim .clauses) where
     abbrev counts : Moving
-    counts = freshCounts lim t (b .full) (b .bare) f proper top fc ft fl
+    counts = freshCounts lim t (b .full) (b .zero) f proper top fc ft fl
 
     terms-are : p .terms ≡ length (s .values)
     unfolding asRead afresh
@@ -130,7 +134,7 @@ module _ (lim : Limits) (text : List ℕ) (t : Tables) (b : Begun lim text t) (H
     counted-out = λ i. recounted (drafted .clauses-are i) (terms-are i) (laid-out i) (tidied i)
 
     walking : Walking top s (fixedIn h) counts
-    walking = fresh-walking lim t (b .full) (b .bare) f proper top fc ft fl
+    walking = fresh-walking lim t (b .full) (b .zero) f proper top fc ft fl
 
     pub can-finish : CanFinish top lim p x m
     unfolding tidyClauses asRead afresh
@@ -143,10 +147,10 @@ module _ (lim : Limits) (text : List ℕ) (t : Tables) (b : Begun lim text t) (H
           room = d .ready .literals-room;
           rounds =
               round-by (d .terms-are) (d .clauses-are) (d .from-is) starts-are literals-are
-              (fresh-can-round lim t (b .full) (b .bare) f proper top fc fl cursors-fit);
+              (fresh-can-round lim t (b .full) (b .zero) f proper top fc fl cursors-fit);
           recounts =
               recount-by (d .clauses-are) terms-are starts-are literals-are tidied
-              (recount-can top f (s .values) (fixedIn h) (movingIn 0 t) (fresh-ready lim t (b .full) (b .bare) f proper top fc ft fl));
+              (recount-can top f (s .values) (fixedIn h) (movingIn 0 t) (fresh-ready lim t (b .full) (b .zero) f proper top fc ft fl));
           closes =
               subst₂ (λ (n : ℕ) (k : Moving). CanClose n (k .tallies .trues) (k .tallies .uncovered .places)) (sym (d .clauses-are)) (sym counted-out)
               (close-can top s (fixedIn h) counts _ walking);
@@ -159,7 +163,7 @@ module _ (lim : Limits) (text : List ℕ) (t : Tables) (b : Begun lim text t) (H
     unfolding finished countsAt countsOf asRead afresh
     finished-is =
         let o = ap (closed (p .clauses)) counted-out ∙ ap (λ (k : ℕ). closed k counts) (drafted .clauses-are)
-        ∙ fresh-outcome lim t (b .full) (b .bare) f proper top fc ft fl in
+        ∙ fresh-outcome lim t (b .full) (b .zero) f proper top fc ft fl in
         let n = ap (λ (k : Moving). k .tallies .uncovered .number) counted-out ∙ walking .number in
         λ i. finishing (record { terms = drafted .terms-are i; clauses = drafted .clauses-are i; literals = drafted .from-is i; uncovered = n i }) (laid-out i) (o i)
 
@@ -168,12 +172,12 @@ module _ (lim : Limits) (text : List ℕ) (t : Tables) (b : Begun lim text t) (H
       ended : finishing r y v ≡ finishing (countsOf s) (fixedIn h) (movingIn (length (s .uncovered)) h)
       ended = e ∙ finished-is
 
-      pub whole-answer : R.Accepted r ≡ readLeaves lim t (readAll lim text) .answer
+      pub whole-answer : R.Accepted r ≡ readLeaves lim t (readText lim text) .answer
       unfolding readLeaves
-      whole-answer = ap (λ (o : Finished). R.Accepted (o .counts)) ended ∙ sym (ap (λ q. readLeaves lim t q .answer) (l .is))
+      whole-answer = ap (λ (o : Finished). R.Accepted (o .counts)) ended ∙ sym (ap (λ q. readLeaves lim t q .answer) read-is)
 
       pub whole-tables : lent (w .names) (v .words) (y .starts) (y .literals) (y .occurrenceStarts) (y .occurrences) (v .tallies .trues) (v .tallies .breaks)
-          (v .tallies .uncovered .list) (v .tallies .uncovered .places) ≡ readLeaves lim t (readAll lim text) .tables
+          (v .tallies .uncovered .list) (v .tallies .uncovered .places) ≡ readLeaves lim t (readText lim text) .tables
       unfolding readLeaves
       whole-tables =
           let g = ended in
@@ -182,4 +186,4 @@ module _ (lim : Limits) (text : List ℕ) (t : Tables) (b : Begun lim text t) (H
           (v .tallies .uncovered .list) (v .tallies .uncovered .places) ≡ h =
           (λ i. lent (n i) (g i .moved .words) (g i .clauses .starts) (g i .clauses .literals) (g i .clauses .occurrenceStarts) (g i .clauses .occurrences)
           (g i .moved .tallies .trues) (g i .moved .tallies .breaks) (g i .moved .tallies .uncovered .list) (g i .moved .tallies .uncovered .places)) in
-          q ∙ sym (ap (λ q. readLeaves lim t q .tables) (l .is))
+          q ∙ sym (ap (λ q. readLeaves lim t q .tables) read-is)

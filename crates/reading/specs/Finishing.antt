@@ -44,9 +44,11 @@ laidOut lim p x = turned (p .terms) (p .clauses) (tidyClauses lim (p .from) x)
 unfoldable pub countedOut : Limits → Place → Fixed → Moving → Moving
 countedOut lim p x w = recounted (p .clauses) (p .terms) (laidOut lim p x) (tidyMoving lim w)
 
+-- the four counts, n of the clauses uncovered
 unfoldable pub countsAt : Place → ℕ → Counts
 countsAt p n = record { terms = p .terms; clauses = p .clauses; literals = p .from; uncovered = n }
 
+-- the draft finished: the places are those of written tables again
 unfoldable pub finished : Limits → Place → Fixed → Moving → Finished
 finished lim p x w =
     finishing (countsAt p (countedOut lim p x w .tallies .uncovered .number)) (laidOut lim p x) (closed (p .clauses) (countedOut lim p x w))

@@ -1,6 +1,5 @@
--- The tests of a text as a whole, "2, 3", and the tables in which a text that passes them is read. Assumes nothing.
-use mathlib.Core.Path.{_≡_}
-use mathlib.Core.Bool.{true, cond}
+-- The tests of a text as a whole: "2, 3". Assumes nothing.
+use mathlib.Core.Bool.{cond}
 use mathlib.Core.List.{List}
 use Prim.Native.Nat.{ℕ}
 use lib.ListN.{length}
@@ -10,7 +9,6 @@ use Rattle.written.specs.declared.Reason.the-variants.{LongText, OpenEnd}
 use Rattle.written.specs.Limits.{Limits}
 use Rattle.written.specs.Reasons.{fault}
 use Rattle.written.specs.Reading.{Reading, refused}
-use Rattle.written.specs.Tables.{Tables, areFull, cleared}
 use Rattle.drafts.specs.Drafting.{readAll}
 use Rattle.reading.specs.declared.Tested.{Tested}
 use Rattle.reading.specs.declared.Tested.the-variants.{Passed, Failed}
@@ -23,9 +21,3 @@ textTests lim t = cond (ltb (lim .text) (length t)) (Failed LongText) (cond (ope
 unfoldable pub afterTests : Limits → List ℕ → Tested → Reading
 afterTests lim t Passed = readAll lim t
 afterTests lim t (Failed e) = refused (fault e)
-
--- full tables of nothing but 0, and a text that passes
-pub record Begun (lim : Limits) (text : List ℕ) (t : Tables) : Type 0 where
-  pub full : areFull lim t ≡ true
-  pub bare : cleared lim t ≡ t
-  pub passed : textTests lim text ≡ Passed

@@ -3,13 +3,14 @@ ghost use mathlib.Core.Path.{_≡_};
 ghost use Prim.Native.Nat.{_≤_};
 ghost use lib.ListN.{length};
 ghost use Rattle.written.specs.Limits.{narrow};
+ghost use Rattle.written.specs.Reading.{readText};
 ghost use Rattle.written.specs.Tables.{lent};
 ghost use Rattle.written.specs.Outcomes.{readLeaves, readingOf};
 ghost use Rattle.machine.specs.Tallies.{tallies};
 ghost use Rattle.machine.specs.Moving.{fixed, moving};
-ghost use Rattle.drafts.specs.Drafting.{desk, readAll};
-ghost use Rattle.reading.specs.Tests.{textTests, Begun};
-ghost use Rattle.reading.specs.Clearing.{blanked, wiped, restZeroed};
+ghost use Rattle.drafts.specs.Drafting.{desk};
+ghost use Rattle.reading.specs.Tests.{textTests};
+ghost use Rattle.reading.specs.Clearing.{blanked, Bare, wiped, restZeroed};
 ghost use Rattle.reading.specs.Finishing.{finishing, finished, CanFinish};
 use drafts::Ended;
 use drafts::Place;
@@ -74,17 +75,17 @@ fn clear_draft(
     names: &mut [u64],
     starts: &mut [u16],
     literals: &mut [u16],
-    breaks: &mut [u16],
-    places: &mut [u16],
+    stamps: &mut [u16],
+    slots: &mut [u16],
 )
-    ensures { λ _. ⌜ desk (now (names .exit)) (now (starts .exit)) (now (literals .exit)) (now (breaks .exit)) (now (places .exit))
-        ≡ wiped narrow (desk (now (names .entry)) (now (starts .entry)) (now (literals .entry)) (now (breaks .entry)) (now (places .entry))) ⌝ }
+    ensures { λ _. ⌜ desk (now (names .exit)) (now (starts .exit)) (now (literals .exit)) (now (stamps .exit)) (now (slots .exit))
+        ≡ wiped narrow (desk (now (names .entry)) (now (starts .entry)) (now (literals .entry)) (now (stamps .entry)) (now (slots .entry))) ⌝ }
 {
     tables::clear_names(names, 2048);
     tables::clear(starts, 8193);
     tables::clear(literals, 16384);
-    tables::clear(breaks, 2048);
-    tables::clear(places, 8192);
+    tables::clear(stamps, 2048);
+    tables::clear(slots, 8192);
 }
 
 // The entries from a place up to n become 0.
@@ -121,12 +122,14 @@ fn finish(
         ≡ finished narrow p (fixed (now (starts .entry)) (now (literals .entry)) (now («occurrence_starts» .entry)) (now (occurrences .entry)))
         (moving (now (values .entry)) (tallies (now (trues .entry)) (now (breaks .entry)) (now (uncovered .entry)) (now (places .entry)) 0)) ⌝ }
 {
+    let terms = p.terms;
+    let clauses = p.clauses;
     clear_rest(literals, p.from, 16384);
-    tables::clear(breaks, 2048);
-    tables::clear(places, 8192);
+    tables::clear(breaks, 2048); // the stamps
+    tables::clear(places, 8192); // the slots
     let n = Counts {
-        terms: p.terms as u32,
-        clauses: p.clauses as u32,
+        terms: terms as u32,
+        clauses: clauses as u32,
         literals: p.from as u32,
         uncovered: 0,
     };
@@ -139,8 +142,8 @@ fn finish(
         uncovered,
     );
     let number = tables::count_afresh(
-        p.terms,
-        p.clauses,
+        terms,
+        clauses,
         values,
         starts,
         literals,
@@ -149,7 +152,7 @@ fn finish(
         uncovered,
         places,
     );
-    tables::close_all(p.clauses, trues, places);
+    tables::close_all(clauses, trues, places);
     Counts {
         terms: n.terms,
         clauses: n.clauses,
@@ -160,7 +163,7 @@ fn finish(
 
 // ---- a reading
 
-// A text that passes the tests, read into tables of 0: these are 0 again where it is refused.
+// A text read into full tables of 0: they are 0 again where it is refused.
 fn read_cleared(
     text: &[u8],
     names: &mut [u64],
@@ -174,15 +177,24 @@ fn read_cleared(
     uncovered: &mut [u16],
     places: &mut [u16],
 ) -> Read
-    requires { ⌜ Begun narrow (now text) (lent (now names) (now values) (now starts) (now literals) (now «occurrence_starts») (now occurrences)
+    requires { ⌜ Bare narrow (lent (now names) (now values) (now starts) (now literals) (now «occurrence_starts») (now occurrences)
         (now trues) (now breaks) (now uncovered) (now places)) ⌝ }
     ensures { λ r. ⌜ (r ≡ readLeaves narrow (lent (now (names .entry)) (now (values .entry)) (now (starts .entry)) (now (literals .entry))
-        (now («occurrence_starts» .entry)) (now (occurrences .entry)) (now (trues .entry)) (now (breaks .entry)) (now (uncovered .entry)) (now (places .entry))) (readAll narrow (now (text .entry))) .answer)
+        (now («occurrence_starts» .entry)) (now (occurrences .entry)) (now (trues .entry)) (now (breaks .entry)) (now (uncovered .entry)) (now (places .entry))) (readText narrow (now (text .entry))) .answer)
         × (lent (now (names .exit)) (now (values .exit)) (now (starts .exit)) (now (literals .exit))
         (now («occurrence_starts» .exit)) (now (occurrences .exit)) (now (trues .exit)) (now (breaks .exit)) (now (uncovered .exit)) (now (places .exit))
         ≡ readLeaves narrow (lent (now (names .entry)) (now (values .entry)) (now (starts .entry)) (now (literals .entry))
-        (now («occurrence_starts» .entry)) (now (occurrences .entry)) (now (trues .entry)) (now (breaks .entry)) (now (uncovered .entry)) (now (places .entry))) (readAll narrow (now (text .entry))) .tables) ⌝ }
+        (now («occurrence_starts» .entry)) (now (occurrences .entry)) (now (trues .entry)) (now (breaks .entry)) (now (uncovered .entry)) (now (places .entry))) (readText narrow (now (text .entry))) .tables) ⌝ }
 {
+    match verdict(text) {
+        Tested::Failed(reason) => {
+            return Read::Refused(Fault {
+                reason: reason,
+                line: 0,
+            });
+        }
+        Tested::Passed => {}
+    }
     match drafts::draft(text, names, starts, literals, breaks, places) {
         Ended::Refused(fault) => {
             clear_draft(names, starts, literals, breaks, places);
@@ -256,15 +268,6 @@ pub fn read(
         uncovered,
         places,
     );
-    match verdict(text) {
-        Tested::Failed(reason) => {
-            return Read::Refused(Fault {
-                reason: reason,
-                line: 0,
-            });
-        }
-        Tested::Passed => {}
-    }
     read_cleared(
         text,
         names,

@@ -4,6 +4,7 @@ use std::io::{Read, Write};
 use std::process::{Child, ChildStdin, ChildStdout, Command, Stdio};
 
 use oracle::flips::FlipAnswer;
+use oracle::reading::ReadAnswer;
 use oracle::{Counts, Tables};
 
 use crate::differences::TABLE_NAMES;
@@ -14,9 +15,11 @@ const STARTER: &str = concat!(env!("CARGO_MANIFEST_DIR"), "/../../target/host/ru
 
 const LEND: u32 = 1;
 const FLIP: u32 = 2;
+const READ: u32 = 3;
 
-/// Bytes of a flip list's entry.
+/// Bytes of a flip list's entry, and of a text's.
 const TERM_WIDTH: usize = 2;
+const BYTE_WIDTH: usize = 1;
 
 pub struct Host {
     child: Child,
@@ -27,9 +30,10 @@ pub struct Host {
 }
 
 /// An answer, and all that was lent as it stands after the call.
-pub struct Flipped {
-    pub answer: FlipAnswer,
-    pub list: Vec<u64>,
+pub struct Called<Answer> {
+    pub answer: Answer,
+    /// What was lent beside the tables: a list or a text.
+    pub beside: Vec<u64>,
     pub tables: Tables,
 }
 
@@ -66,7 +70,7 @@ impl Host {
     }
 
     /// `ngi_flip` on the tables that are lent.
-    pub fn flip(&mut self, list: &[u64], counts: &Counts) -> Result<Flipped, Fault> {
+    pub fn flip(&mut self, list: &[u64], counts: &Counts) -> Result<Called<FlipAnswer>, Fault> {
         let mut request = Vec::new();
         put_number(&mut request, FLIP);
         put_number(&mut request, list.len() as u32);
@@ -83,19 +87,34 @@ impl Host {
             );
         }
         self.send(&request)?;
-        self.see_guards()?;
-        Ok(Flipped {
+        self.see_guards("list")?;
+        Ok(Called {
             answer: self.flip_answer()?,
-            list: self.entries(list.len(), TERM_WIDTH)?,
+            beside: self.entries(list.len(), TERM_WIDTH)?,
             tables: self.tables()?,
         })
     }
 
-    fn see_guards(&mut self) -> Result<(), Fault> {
+    /// `ngi_read` into the tables that are lent.
+    pub fn read(&mut self, text: &[u8]) -> Result<Called<ReadAnswer>, Fault> {
+        let mut request = Vec::new();
+        put_number(&mut request, READ);
+        put_number(&mut request, text.len() as u32);
+        request.extend(text);
+        self.send(&request)?;
+        self.see_guards("text")?;
+        Ok(Called {
+            answer: self.read_answer()?,
+            beside: self.entries(text.len(), BYTE_WIDTH)?,
+            tables: self.tables()?,
+        })
+    }
+
+    fn see_guards(&mut self, beside: &str) -> Result<(), Fault> {
         match self.number()? as usize {
             0 => Ok(()),
             status => {
-                let lent = TABLE_NAMES.get(status - 1).unwrap_or(&"list");
+                let lent = TABLE_NAMES.get(status - 1).unwrap_or(&beside);
                 Err(format!(
                     "the call wrote before or after what was lent: {lent}"
                 ))
@@ -107,12 +126,25 @@ impl Host {
         Ok(FlipAnswer {
             result: self.number()?,
             reason: self.number()?,
-            counts: Counts {
-                terms: self.number()?,
-                clauses: self.number()?,
-                literals: self.number()?,
-                uncovered: self.number()?,
-            },
+            counts: self.counts()?,
+        })
+    }
+
+    fn read_answer(&mut self) -> Result<ReadAnswer, Fault> {
+        Ok(ReadAnswer {
+            result: self.number()?,
+            reason: self.number()?,
+            line: self.number()?,
+            counts: self.counts()?,
+        })
+    }
+
+    fn counts(&mut self) -> Result<Counts, Fault> {
+        Ok(Counts {
+            terms: self.number()?,
+            clauses: self.number()?,
+            literals: self.number()?,
+            uncovered: self.number()?,
         })
     }
 
@@ -132,7 +164,7 @@ impl Host {
     fn entries(&mut self, length: usize, width: usize) -> Result<Vec<u64>, Fault> {
         let mut bytes = vec![0; length * width];
         match self.answers.read_exact(&mut bytes) {
-            Ok(()) => Ok(bytes.chunks_exact(width).map(entry_of).collect()),
+            Ok(()) => Ok(entries_of(&bytes, width)),
             Err(_) => Err(self.end()),
         }
     }
@@ -165,14 +197,35 @@ fn put_number(request: &mut Vec<u8>, number: u32) {
     request.extend(number.to_le_bytes());
 }
 
+/// Each width by itself, so that the compiler knows it: an entry then takes no call.
 fn put_entries(request: &mut Vec<u8>, entries: &[u64], width: usize) {
-    for entry in entries {
-        request.extend(&entry.to_le_bytes()[..width]);
+    match width {
+        2 => put_wide::<2>(request, entries),
+        4 => put_wide::<4>(request, entries),
+        _ => put_wide::<8>(request, entries),
     }
 }
 
-fn entry_of(bytes: &[u8]) -> u64 {
-    let mut entry = [0; 8];
-    entry[..bytes.len()].copy_from_slice(bytes);
-    u64::from_le_bytes(entry)
+fn put_wide<const WIDTH: usize>(request: &mut Vec<u8>, entries: &[u64]) {
+    for entry in entries {
+        request.extend_from_slice(&entry.to_le_bytes()[..WIDTH]);
+    }
+}
+
+fn entries_of(bytes: &[u8], width: usize) -> Vec<u64> {
+    match width {
+        1 => wide_entries::<1>(bytes),
+        2 => wide_entries::<2>(bytes),
+        4 => wide_entries::<4>(bytes),
+        _ => wide_entries::<8>(bytes),
+    }
+}
+
+fn wide_entries<const WIDTH: usize>(bytes: &[u8]) -> Vec<u64> {
+    let entry = |bytes: &[u8]| {
+        let mut entry = [0; 8];
+        entry[..WIDTH].copy_from_slice(bytes);
+        u64::from_le_bytes(entry)
+    };
+    bytes.chunks_exact(WIDTH).map(entry).collect()
 }

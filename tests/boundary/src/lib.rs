@@ -2,8 +2,12 @@
 
 pub mod differences;
 pub mod host;
+pub mod readings;
+pub mod rubbish;
 pub mod sides;
+pub mod texts;
 
+pub use readings::Readings;
 pub use sides::Sides;
 
 use oracle::generate::limit_texts::text_full_of_all;

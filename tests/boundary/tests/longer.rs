@@ -1,18 +1,11 @@
 //! Tables longer than their full sizes: what lies beyond is neither read nor written.
 
 use boundary::differences::TABLE_NAMES;
+use boundary::rubbish::add_rubbish;
 use boundary::{few_flips, full_tables, Sides, NARROW};
-use oracle::generate::lent::{lengthen, rubbish_entry};
+use oracle::generate::lent::lengthen;
 use oracle::generate::*;
 use oracle::reasons::{TABLES_DISAGREE, UNKNOWN_TERM};
-use oracle::Tables;
-
-/// Puts so many entries of rubbish after this table.
-fn add_rubbish(tables: &mut Tables, table: usize, more: usize, random: &mut Random) {
-    let bits = NARROW.entry_bits()[table];
-    let rubbish = (0..more).map(|_| rubbish_entry(bits, random));
-    tables.all_mut()[table].extend(rubbish);
-}
 
 /// Applied and refused lists, one after the other; what lies beyond is compared each time.
 fn give_lists(sides: &mut Sides, random: &mut Random) {

@@ -1,4 +1,5 @@
 -- `reading::finish` meets its contract: it is put together from its calls. Assumes nothing.
+use mathlib.Core.Path.{_∙_}
 use native.Mathlib.Omega.{arith}
 use borrow.Author.Needs.{needs}
 use Rattle.reading.proofs.Finished.{can-turn, can-recount, can-close, number-low, is-finished}
@@ -7,7 +8,7 @@ use Rattle.reading.proofs.finish.Tie as tie
 
 turn-round-requires : tie.Need-turn-round-requires
 turn-round-requires c κs =
-    let cleared = c .before .before .before .before .before .before .before .before .before in
+    let cleared = c .before .before .before .before .before .before .before in
     let clear = cleared .before .before .before .before in
     let rest = clear .before .before .before .before in
     can-turn _ _ _ _ _ (rest .before .before .before .before .before .before .before .before .before .before .before .pre) (rest .clear-rest .ensures) (clear .clear .ensures) (cleared .clear2 .ensures)
@@ -15,7 +16,7 @@ turn-round-requires c κs =
 count-afresh-requires : tie.Need-count-afresh-requires
 count-afresh-requires c κs =
     let turned = c .before .before .before .before .before .before .before .before .before .before .before in
-    let cleared = turned .before .before .before .before .before .before .before .before .before .before in
+    let cleared = turned .before .before .before .before .before .before .before .before in
     let clear = cleared .before .before .before .before in
     let rest = clear .before .before .before .before in
     can-recount _ _ _ _ _ (rest .before .before .before .before .before .before .before .before .before .before .before .pre) (rest .clear-rest .ensures) (clear .clear .ensures) (cleared .clear2 .ensures) (turned .turn-round .ensures)
@@ -24,42 +25,26 @@ close-all-requires : tie.Need-close-all-requires
 close-all-requires c κs =
     let counted = c .before .before .before .before .before .before .before .before .before .before in
     let turned = counted .before .before .before .before .before .before .before .before .before .before .before .before in
-    let cleared = turned .before .before .before .before .before .before .before .before .before .before in
+    let cleared = turned .before .before .before .before .before .before .before .before in
     let clear = cleared .before .before .before .before in
     let rest = clear .before .before .before .before in
     can-close _ _ _ _ _ (rest .before .before .before .before .before .before .before .before .before .before .before .pre) (rest .clear-rest .ensures) (clear .clear .ensures) (cleared .clear2 .ensures) (turned .turn-round .ensures) (counted .count-afresh .ensures)
 
-cast-t22-2 : tie.Need-cast-t22-2
-cast-t22-2 c =
+cast-t24-2 : tie.Need-cast-t24-2
+cast-t24-2 c =
     let counted = c .before .before .before .before .before .before .before .before .before .before .before .before .before in
     let turned = counted .before .before .before .before .before .before .before .before .before .before .before .before in
-    let cleared = turned .before .before .before .before .before .before .before .before .before .before in
+    let cleared = turned .before .before .before .before .before .before .before .before in
     let clear = cleared .before .before .before .before in
     let rest = clear .before .before .before .before in
     omega (arith, number-low _ _ _ _ _ (rest .before .before .before .before .before .before .before .before .before .before .before .pre) (rest .clear-rest .ensures) (clear .clear .ensures) (cleared .clear2 .ensures) (turned .turn-round .ensures) (counted .count-afresh .ensures))
-
-same-length : tie.Need-same-length
-same-length c = let a = c .before .before .before .before .before .before .before .before .before .before .before .before .before .before .before .before .before .before .before .before .before .before .before .before .before .before .before .before .before .before .before .before .before .before .before .before .before .before .before .before .before .before .literals .given in search needs
-
-same-length-5 : tie.Need-same-length-5
-same-length-5 c =
-    let a = c .before .before .before .before .before .before .before .before .before .before .breaks2 .given in
-    let b = c .before .before .before .before .before .before .before .before .before .before .before .before .before .before .before .before .before .before .before .before .before .before .before .before .before .before .before .before .before .before .before .before .before .before .before .before .before .before .breaks .given in
-    search needs
-
-same-length-7 : tie.Need-same-length-7
-same-length-7 c =
-    let a = c .before .places3 .given in
-    let b = c .before .before .before .before .before .before .places2 .given in
-    let d = c .before .before .before .before .before .before .before .before .before .before .before .before .before .before .before .before .before .before .before .before .before .before .before .before .before .before .before .before .before .before .before .before .before .before .places .given in
-    search needs
 
 returns : tie.Need-returns
 returns c =
     let closed = c .before .before in
     let counted = closed .before .before .before .before .before .before .before .before .before .before .before in
     let turned = counted .before .before .before .before .before .before .before .before .before .before .before .before in
-    let cleared = turned .before .before .before .before .before .before .before .before .before .before in
+    let cleared = turned .before .before .before .before .before .before .before .before in
     let clear = cleared .before .before .before .before in
     let rest = clear .before .before .before .before in
     is-finished _ _ _ _ _ (rest .before .before .before .before .before .before .before .before .before .before .before .pre) (rest .clear-rest .ensures) (clear .clear .ensures) (cleared .clear2 .ensures) (turned .turn-round .ensures) (counted .count-afresh .ensures) (closed .close-all .ensures)
@@ -68,5 +53,12 @@ pub finish-spec : {M : Type 1} → statement M
 finish-spec =
     tie.close
     (tie.spec (λ c κs. search needs) (λ c κs. search needs) (λ c κs. search needs) (λ c. search needs) (λ c. search needs) (λ c. search needs)
-    turn-round-requires count-afresh-requires close-all-requires cast-t22-2 same-length (λ c. search needs) (λ c. search needs) (λ c. search needs)
-    same-length-5 (λ c. search needs) same-length-7 returns)
+    turn-round-requires count-afresh-requires close-all-requires cast-t24-2
+    (λ c. c .before .before .before .before .before .before .before .before .before .before .before .before .before .before .before .before .before .before .before .before .before .before .before .before .before .before .before .before .before .before .before .before .before .before .before .before .before .before .before .before .literals .given)
+    (λ c. c .before .before .before .before .before .before .before .before .before .before .before .before .before .before .before .before .before .before .before .before .before .before .before .before .occurrence-starts .given)
+    (λ c. c .before .before .before .before .before .before .before .before .before .before .before .before .before .before .before .before .before .before .before .before .before .before .occurrences .given)
+    (λ c. c .before .before .before .before .before .before .before .before .before .before .before .before .trues .given)
+    (λ c. c .before .before .before .before .before .before .before .before .before .before .breaks2 .given ∙ c .before .before .before .before .before .before .before .before .before .before .before .before .before .before .before .before .before .before .before .before .before .before .before .before .before .before .before .before .before .before .before .before .before .before .before .before .breaks .given)
+    (λ c. c .before .before .before .before .before .before .before .before .uncovered2 .given ∙ c .before .before .before .before .before .before .before .before .before .before .before .before .before .before .before .before .before .before .before .before .uncovered .given)
+    (λ c. c .before .places3 .given ∙ c .before .before .before .before .before .before .places2 .given ∙ c .before .before .before .before .before .before .before .before .before .before .before .before .before .before .before .before .before .before .before .before .before .before .before .before .before .before .before .before .before .before .before .before .places .given)
+    returns)

@@ -1,0 +1,25 @@
+//! Entries that no call may count on.
+
+use oracle::generate::lent::rubbish_entry;
+use oracle::generate::{damage_of, lent_tables_of, DamageKind, LentKind, Random};
+use oracle::{Counts, Tables};
+
+use crate::NARROW;
+
+/// Tables of full size or longer: any entries, or ones so small that they could be numbers of the first terms, clauses and places.
+pub fn rubbish(random: &mut Random) -> Tables {
+    let kind = random.pick(&[LentKind::Rubbish, LentKind::Longer]);
+    let mut tables = lent_tables_of(kind, &NARROW, random);
+    if random.one_in(3) {
+        let small = DamageKind::SmallNumbers;
+        damage_of(small, &NARROW, &mut Counts::default(), &mut tables, random);
+    }
+    tables
+}
+
+/// Puts so many entries of rubbish after this table.
+pub fn add_rubbish(tables: &mut Tables, table: usize, more: usize, random: &mut Random) {
+    let bits = NARROW.entry_bits()[table];
+    let rubbish = (0..more).map(|_| rubbish_entry(bits, random));
+    tables.all_mut()[table].extend(rubbish);
+}
