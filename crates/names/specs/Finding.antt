@@ -8,7 +8,7 @@ use Rattle.machine.specs.Slots.{Vacant}
 use Rattle.names.specs.declared.Found.{Found}
 use Rattle.names.specs.declared.Found.the-variants.{At, New}
 
--- with 2,048 names, 8,192 slots
+-- a prime by which short names spread (docs/DECISIONS.md, "The reading"); with 2,048 names, 8,116 slots
 abbrev pub homes : ℕ
 homes = 6067
 
