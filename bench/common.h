@@ -3,6 +3,7 @@
 #define COMMON_H
 
 #include <stdint.h>
+#include <stdio.h>
 #include <stdlib.h>
 #include <time.h>
 
@@ -23,6 +24,12 @@ struct tables {
 };
 
 #define LENT(table) (table), sizeof(table) / sizeof *(table)
+
+static _Noreturn void fail(const char *why)
+{
+    printf("%s\n", why);
+    exit(1);
+}
 
 /* Knuth's 64-bit linear congruence; the low bits, which are the least random, are left out. */
 static uint32_t random_below(uint32_t bound)

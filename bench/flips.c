@@ -8,101 +8,18 @@
  */
 #include <stdint.h>
 #include <stdio.h>
-#include <stdlib.h>
 #include <string.h>
 
 #include "common.h"
+#include "files.h"
 #include "plain.h"
 
-enum { WIDTH = 3, LISTS_CHECKED = 8, ROUNDS = 5, LISTS_TIMED = 4, EMPTY_LISTS_TIMED = 64, LONGEST_RUN = 4096 };
+enum { LISTS_CHECKED = 8, ROUNDS = 5, LISTS_TIMED = 4, EMPTY_LISTS_TIMED = 64, LONGEST_RUN = 4096 };
 
 typedef __typeof__(ngi_flip) flip_function;
 
 static struct tables one, other;
 static uint16_t list[NGI_LIST];
-
-/* --- random files and lists --- */
-
-/* Names of two bytes. */
-static void name_terms(struct tables *t)
-{
-    for (uint32_t term = 0; term < t->terms; term++)
-        t->names[term] = (33 + term % 93) | (33 + term / 93) << 8;
-}
-
-/* Whether a term stands in the clause that starts here, before this place. */
-static int stands(const struct tables *t, uint32_t start, uint32_t place, uint32_t term)
-{
-    for (uint32_t at = start; at < place; at++)
-        if (t->literals_table[at] / 2 == term)
-            return 1;
-    return 0;
-}
-
-static void draw_clauses(struct tables *t)
-{
-    for (uint32_t clause = 0; clause < t->clauses; clause++) {
-        uint32_t start = clause * WIDTH;
-        for (uint32_t at = start; at < start + WIDTH; at++) {
-            uint32_t term = random_below(t->terms);
-            while (stands(t, start, at, term))
-                term = random_below(t->terms);
-            t->literals_table[at] = (uint16_t)(2 * term + random_below(2));
-        }
-        t->starts[clause + 1] = (uint16_t)(start + WIDTH);
-    }
-    t->literals = t->clauses * WIDTH;
-}
-
-static void draw_values(struct tables *t)
-{
-    for (uint32_t term = 0; term < t->terms; term++)
-        t->values[term / 32] |= random_below(2) << term % 32;
-}
-
-/* Clause numbers rise within a literal, since the clauses are gone through in order. */
-static void place_occurrences(struct tables *t)
-{
-    static uint16_t next[NGI_OCCURRENCE_STARTS_SIZE];
-    for (uint32_t at = 0; at < t->literals; at++)
-        t->occurrence_starts[t->literals_table[at] + 1]++;
-    for (uint32_t literal = 0; literal < 2 * t->terms; literal++)
-        t->occurrence_starts[literal + 1] += t->occurrence_starts[literal];
-    memcpy(next, t->occurrence_starts, sizeof next);
-    for (uint32_t at = 0; at < t->literals; at++)
-        t->occurrences[next[t->literals_table[at]]++] = (uint16_t)(at / WIDTH);
-}
-
-static void count_afresh(struct tables *t)
-{
-    for (uint32_t clause = 0; clause < t->clauses; clause++) {
-        uint32_t last = 0;
-        for (uint32_t at = clause * WIDTH; at < (clause + 1) * WIDTH; at++) {
-            uint32_t literal = t->literals_table[at], term = literal / 2;
-            if ((t->values[term / 32] >> term % 32 & 1) != (literal & 1)) {
-                t->true_counts[clause]++;
-                last = term;
-            }
-        }
-        if (t->true_counts[clause] == 1)
-            t->break_counts[last]++;
-        if (t->true_counts[clause] == 0) {
-            t->places[clause] = (uint16_t)t->uncovered;
-            t->uncovered_list[t->uncovered++] = (uint16_t)clause;
-        }
-    }
-}
-
-static void make_file(struct tables *t, uint32_t terms, uint32_t clauses)
-{
-    t->terms = terms;
-    t->clauses = clauses;
-    name_terms(t);
-    draw_clauses(t);
-    draw_values(t);
-    place_occurrences(t);
-    count_afresh(t);
-}
 
 static void draw_list(uint32_t terms, size_t length)
 {
@@ -118,10 +35,8 @@ static void apply(flip_function *flip, struct tables *t, size_t flips)
     ngi_flip_answer answer = flip(list, flips, t->terms, t->clauses, t->literals, t->uncovered, LENT(t->names), LENT(t->values),
                                   LENT(t->starts), LENT(t->literals_table), LENT(t->occurrence_starts), LENT(t->occurrences),
                                   LENT(t->true_counts), LENT(t->break_counts), LENT(t->uncovered_list), LENT(t->places));
-    if (answer.result != 1) {
-        printf("refused, reason %u\n", (unsigned)answer.reason);
-        exit(1);
-    }
+    if (answer.result != 1)
+        fail("the list is refused");
     t->terms = answer.terms;
     t->clauses = answer.clauses;
     t->literals = answer.literals;
@@ -135,10 +50,8 @@ static int check(void)
         draw_list(one.terms, NGI_LIST);
         apply(ngi_flip, &one, NGI_LIST);
         apply(plain_flip, &other, NGI_LIST);
-        if (memcmp(&one, &other, sizeof one) != 0) {
-            printf("the two leave different tables\n");
-            return 1;
-        }
+        if (memcmp(&one, &other, sizeof one) != 0)
+            fail("the two leave different tables");
     }
     return 0;
 }
@@ -180,7 +93,7 @@ static int run(const char *side, uint32_t flips)
 int main(int count, char **words)
 {
     if (count >= 4)
-        make_file(&one, number(words[2]), number(words[3]));
+        make_three_sat(&one, number(words[2]), number(words[3]));
     if (count == 4 && strcmp(words[1], "check") == 0)
         return check();
     if (count == 4 && strcmp(words[1], "time") == 0)

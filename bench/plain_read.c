@@ -210,10 +210,8 @@ ngi_read_answer plain_read(const uint8_t *text, size_t text_length,
 {
     struct tables t = {0, 0, 0, 0, names, values, starts, literals_table, occurrence_starts, occurrences,
                        true_counts, break_counts, uncovered_list, places};
-    if (names_length < NGI_NAMES_SIZE || values_length < NGI_VALUES_SIZE || starts_length < NGI_STARTS_SIZE ||
-        literals_table_length < NGI_LITERALS_SIZE || occurrence_starts_length < NGI_OCCURRENCE_STARTS_SIZE ||
-        occurrences_length < NGI_OCCURRENCES_SIZE || true_counts_length < NGI_TRUE_COUNTS_SIZE ||
-        break_counts_length < NGI_BREAK_COUNTS_SIZE || uncovered_list_length < NGI_UNCOVERED_LIST_SIZE || places_length < NGI_PLACES_SIZE)
+    if (!are_full(names_length, values_length, starts_length, literals_table_length, occurrence_starts_length, occurrences_length,
+                  true_counts_length, break_counts_length, uncovered_list_length, places_length))
         return refused(NGI_TABLE_TOO_SHORT, 0);
     return read_into(&t, text, text_length);
 }

@@ -10,7 +10,6 @@
  */
 #include <stdint.h>
 #include <stdio.h>
-#include <stdlib.h>
 #include <string.h>
 
 #include "common.h"
@@ -23,12 +22,6 @@ typedef __typeof__(ngi_read) read_function;
 static struct tables one, other;
 static uint8_t text[NGI_TEXT];
 static uint32_t text_length;
-
-static _Noreturn void fail(const char *why)
-{
-    printf("%s\n", why);
-    exit(1);
-}
 
 /* --- random texts --- */
 

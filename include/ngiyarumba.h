@@ -49,10 +49,27 @@ enum {
     NGI_TOO_MANY_LITERALS = 7, /* a literal when NGI_LITERALS are held */
     NGI_TOO_MANY_CLAUSES = 8,  /* a kept line when NGI_CLAUSES are held */
     NGI_NO_CLAUSE = 9,         /* no line was kept */
+    NGI_OUT_OF_RANGE = 11,     /* a number outside its range */
     NGI_TABLES_DISAGREE = 12,  /* no clause stands, or some count or entry of a table is not what the others say */
     NGI_UNKNOWN_TERM = 13,     /* a flip list names a term not below the term count */
     NGI_LIST_TOO_LONG = 14     /* a flip list longer than NGI_LIST */
 };
+
+/* The answer to a draw, a choice or heads. */
+typedef struct {
+    uint32_t reason; /* NGI_NO_REASON, or NGI_OUT_OF_RANGE */
+    uint32_t number; /* the number drawn; 0 where there is a reason */
+    uint32_t state;  /* the generator's state now; as it was where there is a reason */
+} ngi_drawn;
+
+/* One draw from a state above 0: 32-bit xorshift, by 13 to the left, 17 to the right, 5 to the left. The number is the new state. */
+ngi_drawn ngi_draw(uint32_t state);
+
+/* A choice among m, m above 0: the draw's remainder by m, so a number from 0 to m - 1. */
+ngi_drawn ngi_choice(uint32_t state, uint32_t m);
+
+/* Heads, which is 1, where the draw's remainder by 1,000 is below the bias, else 0. The bias is at most 1,000. */
+ngi_drawn ngi_heads(uint32_t state, uint32_t bias);
 
 /* The answer to a reading. */
 typedef struct {
@@ -75,6 +92,35 @@ ngi_read_answer ngi_read(const uint8_t *text, size_t text_length,
                          uint16_t *literals_table, size_t literals_table_length,
                          uint16_t *occurrence_starts, size_t occurrence_starts_length,
                          uint16_t *occurrences, size_t occurrences_length,
+                         uint16_t *true_counts, size_t true_counts_length,
+                         uint16_t *break_counts, size_t break_counts_length,
+                         uint16_t *uncovered_list, size_t uncovered_list_length,
+                         uint16_t *places, size_t places_length);
+
+/* The answer to a walk. */
+typedef struct {
+    uint32_t result; /* 1 found, 2 gave up, 0 refused */
+    uint32_t reason; /* NGI_NO_REASON where it was not refused */
+    uint32_t walks;  /* those begun; 0 where it was refused */
+    uint32_t flips;  /* made, summed over all walks; 0 where it was refused */
+    uint32_t terms, clauses, literals, uncovered; /* the four counts now; where it was refused, those given */
+} ngi_walk_answer;
+
+/*
+ * Walks from drawn values, one flip after another, until no clause is uncovered (found) or until each of the walks has made its flips (gave
+ * up). The seed is from 1 to 4,294,967,295, flips for each walk from 0 to 100,000, walks from 1 to 1,000, the bias, in thousandths, from 0 to
+ * 1,000. The values that stand are not looked at: the answer depends on these four numbers and the clauses alone. Afterwards the tables hold
+ * the end of the last walk, ready for another call; names, starts, literals, occurrence starts and occurrences are only read. A refused walk
+ * leaves every table as it was. Reasons are tested in the order 1, 11, 12.
+ */
+ngi_walk_answer ngi_walk(uint32_t seed, uint32_t flips, uint32_t walks, uint32_t bias,
+                         uint32_t terms, uint32_t clauses, uint32_t literals, uint32_t uncovered,
+                         const uint64_t *names, size_t names_length,
+                         uint32_t *values, size_t values_length,
+                         const uint16_t *starts, size_t starts_length,
+                         const uint16_t *literals_table, size_t literals_table_length,
+                         const uint16_t *occurrence_starts, size_t occurrence_starts_length,
+                         const uint16_t *occurrences, size_t occurrences_length,
                          uint16_t *true_counts, size_t true_counts_length,
                          uint16_t *break_counts, size_t break_counts_length,
                          uint16_t *uncovered_list, size_t uncovered_list_length,

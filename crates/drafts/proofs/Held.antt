@@ -19,7 +19,7 @@ use Rattle.drafts.specs.Turns.{placeAt, givenBack}
 use Rattle.drafts.proofs.Growing.{set-over, starts-snoc, flatten-snoc}
 
 -- a line begins past some of the literals held
-pub line-begins : (H : ℕ) (lim : Limits) (ns : List ℕ) (terms : ℕ) (ls : List ℕ) (from held at : ℕ) (ms os : List ℕ) → at ≤ held
+line-begins : (H : ℕ) (lim : Limits) (ns : List ℕ) (terms : ℕ) (ls : List ℕ) (from held at : ℕ) (ms os : List ℕ) → at ≤ held
     → Open H lim ns terms ls from held ms os → Open H lim ns terms ls at at ms os
 line-begins H lim ns terms ls from held at ms os l h =
     record {

@@ -7,17 +7,17 @@ use lib.ListN.{length, getD, take}
 use lib.Seq.{length-take-le}
 use Rattle.scan.specs.declared.Cursor.{Cursor}
 use Rattle.scan.specs.declared.Step.{Step}
-use Rattle.scan.specs.Scan.{scan, start, passed, takes, lineOf}
-use Rattle.scan.proofs.Advance.{scan-sound, scan-falls, pass-forward}
+use Rattle.scan.specs.Scan.{scan, start, passed, lineOf}
+use Rattle.scan.proofs.Advance.{scan-falls}
 use Rattle.written.specs.Limits.{Limits}
 use Rattle.written.specs.Tables.{startsFrom, over}
 use Rattle.written.specs.Reading.{Reading, Draft, Turn, nothing, atToken, nextLine, led, readFrom}
-use Rattle.laws.proofs.Basics.{by-cases}
 use Rattle.laws.proofs.Times.{times-le}
 use Rattle.laws.proofs.Turns.{After, token-by}
 use Rattle.laws.proofs.Lines.{scan-lined}
 use Rattle.laws.proofs.Faults.{Stands, start-stands, scan-stands, pass-stands}
-use Rattle.laws.proofs.Fuel.{left}
+use Rattle.laws.proofs.Fuel.{left, next-left}
+use Rattle.machine.proofs.Slots.{none-known}
 use Rattle.taking.proofs.Stamps.{line-empty, marked-none}
 use Rattle.drafts.specs.declared.Place.{Place}
 use Rattle.drafts.specs.declared.Next.{Next}
@@ -34,7 +34,7 @@ pub record Lent (w₀ w : Desk) : Type 0 where
   pub stamps-long : length (w .stamps) ≡ length (w₀ .stamps)
   pub slots-long : length (w .slots) ≡ length (w₀ .slots)
 
-pub lent-on : (w₀ w w′ : Desk) → Lent w₀ w → Lent w w′ → Lent w₀ w′
+lent-on : (w₀ w w′ : Desk) → Lent w₀ w → Lent w w′ → Lent w₀ w′
 lent-on w₀ w w′ a b =
     record {
       names-long = b .names-long ∙ a .names-long;
@@ -74,15 +74,7 @@ module _ (H : ℕ) (lim : Limits) (t : List ℕ) where
         ready = record {
           names-room = b .names-room;
           few-terms = omega arith;
-          indexed = record {
-            some = b .homes-some;
-            few = omega arith;
-            room = b .slots-room;
-            apart = refl;
-            low = λ j l. omega (arith, b .bare j l);
-            bare = λ j _ l. b .bare j l;
-            reached = λ k l. absurd (omega arith);
-          };
+          indexed = none-known H (lim .terms) (w .slots) (b .homes-some) (b .slots-room) (b .bare);
           literals-room = b .literals-room;
           few-literals = omega arith;
           stamps-room = b .stamps-room;
@@ -114,9 +106,6 @@ module _ (H : ℕ) (lim : Limits) (t : List ℕ) where
 
   -- ---- a turn's cursor
 
-  scan-left : (c : Cursor) → left t (scan t c .next) ≤ left t c
-  scan-left c = by-cases (takes (scan t c .token)) (λ e. omega (arith, scan-falls t c e)) (λ e. omega (arith, ap (λ (k : Cursor). k .at) (scan-sound t c .still e)))
-
   -- it stands in the text, fewer bytes before its end
   abbrev Nearer : Cursor → Cursor → Type 0
   Nearer c c′ = Stands t c′ × (left t c′ < left t c)
@@ -128,7 +117,7 @@ module _ (H : ℕ) (lim : Limits) (t : List ℕ) where
       token-by (λ c′ d′. Nearer c c′) (λ r. Unit {0}) lim t (scan t c .next) d (scan t c .token)
       (record {
         skip = λ e. (on, scan-falls t c e);
-        leave = λ e. (scan-stands t below (pass-stands t (scan t c .next) on), omega (arith, scan-falls t c e, pass-forward t (scan t c .next), scan-left below));
+        leave = λ e. (scan-stands t below (pass-stands t (scan t c .next) on), omega (arith, scan-falls t c e, next-left t (scan t c .next)));
         take = λ e l _ _. (on, scan-falls t c e);
         keep = λ e _ _. (on, scan-falls t c e);
         refuse = λ _ r _. tt;

@@ -5,7 +5,7 @@ ghost use Prim.Native.Nat.{_+_, _-_, _≤_, _<_};
 ghost use lib.ListN.{length, getD, set};
 ghost use Rattle.written.specs.Lists.{steps};
 ghost use Rattle.machine.specs.Uncovered.{uncovered, leaves, CanLeave};
-ghost use Rattle.machine.specs.Tallies.{tallies, lowered, CanLower, pickOf, hitOf, gainOne, loseOne, CanGain, CanLose, CanSteps};
+ghost use Rattle.machine.specs.Tallies.{tallies, lowered, CanLower, pickOf, belowOf, gainOne, loseOne, CanGain, CanLose, CanSteps};
 ghost use Rattle.machine.specs.Moving.{moving, occurring, upOf, flipTerm, CanFlip};
 
 // One less at k.
@@ -31,21 +31,21 @@ fn leave(list: &mut [u16], places: &mut [u16], number: usize, c: u16, v: u16) ->
     number - 1
 }
 
-// p where k is m, else v: no jump is made on it.
-fn pick(k: u16, m: u16, p: u16, v: u16) -> usize
+// p where k is below m, else v: no jump is made on it. Both are wide, so that nothing is widened after the choice.
+fn pick(k: u16, m: u16, p: usize, v: usize) -> usize
     ensures { λ r. ⌜ r ≡ pickOf k m p v ⌝ }
 {
-    if k == m {
-        return p as usize;
+    if k < m {
+        return p;
     }
-    v as usize
+    v
 }
 
-// 1 where k is m, else 0.
-fn hit(k: u16, m: u16) -> u16
-    ensures { λ r. ⌜ r ≡ hitOf k m ⌝ }
+// 1 where k is below m, else 0.
+fn below(k: u16, m: u16) -> u16
+    ensures { λ r. ⌜ r ≡ belowOf k m ⌝ }
 {
-    if k == m {
+    if k < m {
         return 1;
     }
     0
@@ -74,10 +74,10 @@ fn gain_one(
     list: &mut [u16],
     places: &mut [u16],
     number: usize,
-    v: u16,
+    v: usize,
     c: u16,
 ) -> usize
-    requires { ⌜ CanGain 65536 v c (tallies (now trues) (now breaks) (now list) (now places) number) ⌝ }
+    requires { ⌜ CanGain 65536 v c (tallies (now trues) (now breaks) (now list) (now places) number) × (v < 65536) ⌝ }
     ensures { λ r. ⌜ tallies (now (trues .exit)) (now (breaks .exit)) (now (list .exit)) (now (places .exit)) r
         ≡ gainOne v c (tallies (now (trues .entry)) (now (breaks .entry)) (now (list .entry)) (now (places .entry)) number) ⌝ }
 {
@@ -85,12 +85,13 @@ fn gain_one(
     let k = trues[at];
     tables::raise(trues, at);
     if k == 0 {
-        tables::raise(breaks, v as usize);
-        return leave(list, places, number, c, v);
+        tables::raise(breaks, v);
+        return leave(list, places, number, c, v as u16);
     }
     let p = places[at];
-    places[at] = p ^ v;
-    lower_by(breaks, pick(k, 1, p, v), hit(k, 1));
+    places[at] = p ^ (v as u16);
+    // it has one or more: one where they are below 2
+    lower_by(breaks, pick(k, 2, p as usize, v), below(k, 2));
     number
 }
 
@@ -101,10 +102,10 @@ fn lose_one(
     list: &mut [u16],
     places: &mut [u16],
     number: usize,
-    v: u16,
+    v: usize,
     c: u16,
 ) -> usize
-    requires { ⌜ CanLose 65536 v c (tallies (now trues) (now breaks) (now list) (now places) number) ⌝ }
+    requires { ⌜ CanLose 65536 v c (tallies (now trues) (now breaks) (now list) (now places) number) × (v < 65536) ⌝ }
     ensures { λ r. ⌜ tallies (now (trues .exit)) (now (breaks .exit)) (now (list .exit)) (now (places .exit)) r
         ≡ loseOne v c (tallies (now (trues .entry)) (now (breaks .entry)) (now (list .entry)) (now (places .entry)) number) ⌝ }
 {
@@ -112,12 +113,13 @@ fn lose_one(
     let k = trues[at];
     lower(trues, at);
     if k == 1 {
-        lower(breaks, v as usize);
+        lower(breaks, v);
         return tables::enter(list, places, number, c);
     }
-    let p = places[at] ^ v;
+    let p = places[at] ^ (v as u16);
     places[at] = p;
-    raise_by(breaks, pick(k, 2, p, v), hit(k, 2));
+    // it had two or more: two where they are below 3
+    raise_by(breaks, pick(k, 3, p as usize, v), below(k, 3));
     number
 }
 
@@ -129,9 +131,9 @@ fn gain_run(
     list: &mut [u16],
     places: &mut [u16],
     number: usize,
-    v: u16,
+    v: usize,
 ) -> usize
-    requires { ⌜ CanSteps (CanGain 65536 v) (gainOne v) (now run) (tallies (now trues) (now breaks) (now list) (now places) number) ⌝ }
+    requires { ⌜ CanSteps (CanGain 65536 v) (gainOne v) (now run) (tallies (now trues) (now breaks) (now list) (now places) number) × (v < 65536) ⌝ }
     ensures { λ r. ⌜ tallies (now (trues .exit)) (now (breaks .exit)) (now (list .exit)) (now (places .exit)) r
         ≡ steps (gainOne v) (now (run .entry)) (tallies (now (trues .entry)) (now (breaks .entry)) (now (list .entry)) (now (places .entry)) number) ⌝ }
 {
@@ -152,9 +154,9 @@ fn lose_run(
     list: &mut [u16],
     places: &mut [u16],
     number: usize,
-    v: u16,
+    v: usize,
 ) -> usize
-    requires { ⌜ CanSteps (CanLose 65536 v) (loseOne v) (now run) (tallies (now trues) (now breaks) (now list) (now places) number) ⌝ }
+    requires { ⌜ CanSteps (CanLose 65536 v) (loseOne v) (now run) (tallies (now trues) (now breaks) (now list) (now places) number) × (v < 65536) ⌝ }
     ensures { λ r. ⌜ tallies (now (trues .exit)) (now (breaks .exit)) (now (list .exit)) (now (places .exit)) r
         ≡ steps (loseOne v) (now (run .entry)) (tallies (now (trues .entry)) (now (breaks .entry)) (now (list .entry)) (now (places .entry)) number) ⌝ }
 {
@@ -168,11 +170,11 @@ fn lose_run(
 }
 
 // The literal of term v that becomes true as v is flipped.
-fn up_literal(values: &[u32], v: u16) -> usize
+fn up_literal(values: &[u32], v: usize) -> usize
+    requires { ⌜ v < 65536 ⌝ }
     ensures { λ r. ⌜ r ≡ upOf (now (values .entry)) v ⌝ }
 {
-    let t = v as usize;
-    2 * t + (words::value(values, t) as usize)
+    2 * v + (words::value(values, v) as usize)
 }
 
 // The flip of term v: the clauses of the literal that becomes true, then those of the literal that becomes false. Gives the uncovered list's new number.
@@ -185,7 +187,7 @@ pub fn flip_term(
     list: &mut [u16],
     places: &mut [u16],
     number: usize,
-    v: u16,
+    v: usize,
 ) -> usize
     requires { ⌜ CanFlip 65536 (occurring (now «occurrence_starts») (now occurrences)) v
         (moving (now values) (tallies (now trues) (now breaks) (now list) (now places) number)) ⌝ }
@@ -194,7 +196,7 @@ pub fn flip_term(
         (moving (now (values .entry)) (tallies (now (trues .entry)) (now (breaks .entry)) (now (list .entry)) (now (places .entry)) number)) ⌝ }
 {
     let up = up_literal(values, v);
-    words::turn(values, v as usize);
+    words::turn(values, v);
     let gains = tables::part(occurrence_starts, occurrences, up);
     let n = gain_run(gains, trues, breaks, list, places, number, v);
     // the other literal of v
@@ -233,7 +235,7 @@ pub fn flip_all(
             list,
             places,
             n,
-            terms[i],
+            terms[i] as usize,
         );
         i += 1;
     }

@@ -6,12 +6,13 @@ use mathlib.Core.List.{List, []}
 use native.Mathlib.Omega.{arith}
 use lib.ListN.{length, getD}
 use lib.Dec.{ltb}
-use borrow.Author.Tests.{ltb-true, ltb-false}
+use borrow.Author.Tests.{lt-ltb, ltb-true, ltb-false, eqb-true, eqb-false}
 use Rattle.written.specs.Lists.{has, times}
-use Rattle.written.specs.Clauses.{State, isUncovered, uncoveredIn}
+use Rattle.written.specs.Clauses.{State, trueCount, isUncovered, uncoveredIn}
 use Rattle.laws.specs.Valid.{Listed}
-use Rattle.laws.proofs.Basics.{by-cases, both-first, one-most}
+use Rattle.laws.proofs.Basics.{by-cases, both-first, both-second, one-most}
 use Rattle.laws.proofs.Sums.{total-most}
+use Rattle.laws.proofs.Membership.{has-getD}
 use Rattle.laws.proofs.Times.{has-is, has-times, where-length, reordered-length, same-times}
 use Rattle.laws.proofs.Uncovered.{times-uncovered}
 
@@ -53,6 +54,26 @@ module _ (s : State) (h : Listed s) where
   pub listed-once : (c : ℕ) → has c (uncoveredIn (s .values) (s .file .clauses)) ≡ true → times c (s .uncovered) ≡ 1
   listed-once c m =
       omega (arith, h .same-times c, has-times c (uncoveredIn (s .values) (s .file .clauses)) m, uncovered-once (s .values) (s .file .clauses) c)
+
+  -- none is listed: each clause has a true literal
+  pub none-listed : s .uncovered ≡ [] → (c : ℕ) → c < length (s .file .clauses) → 0 < trueCount (s .values) (getD (s .file .clauses) c [])
+  unfolding isUncovered
+  none-listed e c l =
+      let covered = ap (λ (b : Bool). b && isUncovered (s .values) (getD (s .file .clauses) c [])) (sym (lt-ltb c (length (s .file .clauses)) l))
+      ∙ sym (listed-at c) ∙ ap (has c) e in
+      let some = eqb-false (trueCount (s .values) (getD (s .file .clauses) c [])) 0 covered in
+      omega arith
+
+  -- one is listed: it has none
+  pub some-listed : 0 < length (s .uncovered) → (c : ℕ) × (c < length (s .file .clauses)) × (trueCount (s .values) (getD (s .file .clauses) c []) ≡ 0)
+  unfolding isUncovered
+  some-listed h =
+      let c = getD (s .uncovered) 0 0 in
+      let stands = sym (listed-at c) ∙ has-getD (s .uncovered) 0 0 h in (
+        c,
+        ltb-true c (length (s .file .clauses)) (both-first _ _ stands),
+        eqb-true (trueCount (s .values) (getD (s .file .clauses) c [])) 0 (both-second (ltb c (length (s .file .clauses))) _ stands),
+      )
 
 -- as many are listed as stand uncovered, and each of these once: then no other is
 pub listed-by : (s : State) → length (s .uncovered) ≡ length (uncoveredIn (s .values) (s .file .clauses))

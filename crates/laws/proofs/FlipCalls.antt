@@ -21,10 +21,11 @@ use Rattle.written.specs.Limits.{Limits}
 use Rattle.written.specs.Clauses.{File, State, afresh}
 use Rattle.written.specs.Reading.{accepted, readText}
 use Rattle.written.specs.Flips.{flipped}
-use Rattle.written.specs.Tables.{Tables, each, sizes, fullSizes, areFull, inUse, tablesOf, placeIn, countsOf, holding}
+use Rattle.written.specs.Tables.{Tables, each, sizes, areFull, inUse, tablesOf, placeIn, countsOf, holding}
 use Rattle.written.specs.Agreement.{stateIn, agree}
 use Rattle.written.specs.Outcomes.{Leaves, flipsRefused, flipsLeave, flipsOf}
 use Rattle.laws.specs.Valid.{Bits, Valid}
+use Rattle.laws.specs.Calls.{Stands}
 use Rattle.laws.specs.Demands.{SameButOrder, AfterFlips, Acceptable, SameButList, Accepted}
 use Rattle.laws.proofs.Basics.{by-cases, by-lt}
 use Rattle.laws.proofs.Lists.{getD-listOf}
@@ -33,10 +34,9 @@ use Rattle.laws.proofs.Flips.{flipped-file}
 use Rattle.laws.proofs.Kept.{flipped-valid}
 use Rattle.laws.proofs.AnyOrder.{demand-three, afresh-listed}
 use Rattle.laws.proofs.Each.Table.{Uncovered, Places}
-use Rattle.laws.proofs.Holding.{holding-full, holding-used, holding-beyond, holding-sizes, holding-past}
-use Rattle.laws.proofs.Back.{holding-back}
+use Rattle.laws.proofs.Holding.{holding-used, holding-sizes, holding-past}
 use Rattle.laws.proofs.Agreeing.{agree-valid, agree-counts}
-use Rattle.laws.proofs.Agrees.{holding-agrees}
+use Rattle.laws.proofs.Stands.{stands-in, stands-acceptable, same-file}
 use Rattle.laws.proofs.Readings.{reading-proper}
 
 -- ---- lent tables into which a state is written, and another that differs from it in the order of its list alone
@@ -187,15 +187,9 @@ acceptable-leaves : (lim : Limits) (ts : List ℕ) (n : Counts) (t : Tables) →
 unfolding countsOf
 acceptable-leaves lim ts n t h =
     record {
-      state = ap (stateIn (countsOf after)) out ∙ holding-back lim after t valid;
-      whole = out;
-      beyond = ap (each drop (fullSizes lim)) out ∙ holding-beyond lim after t valid;
+      stands = subst (λ u. Stands lim after t (countsOf after) u) (sym out) (stands-in lim after t valid (h .full));
       after = demanded;
-      terms = ap (λ (f : File). length (f .names)) file ∙ ap (λ (m : Counts). m .terms) (before-counts lim ts n t h);
-      clauses = ap (λ (f : File). length (f .clauses)) file ∙ ap (λ (m : Counts). m .clauses) (before-counts lim ts n t h);
-      literals = ap (λ (f : File). total length (f .clauses)) file ∙ ap (λ (m : Counts). m .literals) (before-counts lim ts n t h);
-      full = ap (areFull lim) out ∙ holding-full lim after t valid (h .full);
-      agrees = ap (agree lim (countsOf after)) out ∙ holding-agrees lim after t valid;
+      counts = same-file lim n t after (h .agrees) (h .full) (flipped-file ts (stateIn n t));
       any-order = λ us same.
           let k = reordered lim ts us n t same h in
           let o = demanded .any-order us same in
@@ -215,9 +209,6 @@ acceptable-leaves lim ts n t h =
     valid : Valid lim after
     valid = after-valid lim ts n t h
 
-    file : after .file ≡ stateIn n t .file
-    file = flipped-file ts (stateIn n t)
-
     demanded : AfterFlips ts (stateIn n t)
     demanded = demand-three lim ts (stateIn n t) (before-valid lim ts n t h) (names-known lim ts n t h)
 
@@ -233,12 +224,8 @@ pub file-acceptable : (lim : Limits) (text : List ℕ) (f : File) (vs ts : List 
     → Acceptable lim ts (countsOf (afresh f vs)) (holding lim (afresh f vs) t)
 unfolding countsOf afresh
 file-acceptable lim text f vs ts t e one-each bits short known full =
-    record {
-      full = holding-full lim (afresh f vs) t valid full;
-      short = short;
-      agrees = holding-agrees lim (afresh f vs) t valid;
-      known = known;
-    }
+    let s = afresh f vs in
+    stands-acceptable lim s t (countsOf s) (holding lim s t) (stands-in lim s t valid full) ts short known
   where
     valid : Valid lim (afresh f vs)
     valid = record { proper = reading-proper lim text f e; one-each = one-each; bits = bits; listed = afresh-listed f vs }

@@ -1,5 +1,5 @@
 -- What a flip keeps, and joined flip lists. Assumes nothing.
-use Prim.Native.Nat.{ℕ, _-_}
+use Prim.Native.Nat.{ℕ}
 use mathlib.Core.Path.{_≡_, refl}
 use mathlib.Core.List.{List, [], _∷_, _++_}
 use Rattle.written.specs.Clauses.{State}

@@ -22,7 +22,7 @@ left t c = length t - c .at
 scan-left : (t : List ℕ) (c : Cursor) → left t (scan t c .next) ≤ left t c
 scan-left t c = by-cases (takes (scan t c .token)) (λ e. omega (arith, scan-falls t c e)) (λ e. omega (arith, ap (λ (k : Cursor). k .at) (scan-sound t c .still e)))
 
-next-left : (t : List ℕ) (c : Cursor) → left t (nextLine t c) ≤ left t c
+pub next-left : (t : List ℕ) (c : Cursor) → left t (nextLine t c) ≤ left t c
 next-left t c = omega (arith, scan-left t (passed t c), pass-forward t c)
 
 -- a turn leaves fewer than n bytes, or ends the reading

@@ -10,7 +10,7 @@ use borrow.Author.Tests.{eqb-true, eqb-false, ne-eqb, eq-eqb}
 use Rattle.written.specs.Lists.{total, has, placeOf, differ}
 use Rattle.written.specs.Clauses.{literalOf, termOf, valueOf, trueCount, isUncovered}
 use Rattle.written.specs.Flips.{turned, falseLiteral, trueLiteral}
-use Rattle.laws.proofs.Basics.{by-cases, neither-first, neither-second}
+use Rattle.laws.proofs.Basics.{by-cases, by-eq, neither-first, neither-second}
 use Rattle.laws.proofs.Sums.{total-has}
 use Rattle.laws.proofs.Membership.{differ-first, differ-rest, placeOf-lt, placeOf-getD, differ-apart}
 use Rattle.laws.proofs.Turning.{turned-same, turned-other}
@@ -123,6 +123,16 @@ has-total h l ls e = rw (placeOf-getD l ls 0 e) at (total-has h ls (placeOf l ls
 pub covered-by : (vs : List ℕ) (l : ℕ) (ls : List ℕ) → valueOf vs l ≡ 1 → has l ls ≡ true → isUncovered vs ls ≡ false
 unfolding isUncovered trueCount
 covered-by vs l ls v e = ne-eqb (total (valueOf vs) ls) 0 (λ q. let k = has-total (valueOf vs) l ls e in omega arith)
+
+-- and one that has true literals has one
+pub some-true : (vs ls : List ℕ) → 0 < trueCount vs ls → (l : ℕ) × (has l ls ≡ true) × (valueOf vs l ≡ 1)
+unfolding trueCount
+some-true vs [] h = absurd (omega arith)
+some-true vs (l ∷ ls) h =
+    by-eq (valueOf vs l) 1 (λ e. (l, rw (eq-eqb l l refl), e))
+    (λ n.
+    let r = some-true vs ls (omega (arith, value-le vs l)) in
+    (r .0, by-cases (eqb (r .0) l) (λ q. rw q) (λ q. rw q (r .1)), r .2))
 
 -- a clause in which neither literal of t stands is without t
 pub without : (vs : List ℕ) (t : ℕ) (ls : List ℕ) → getD vs t 0 < 2 → has (falseLiteral vs t) ls ≡ false → has (trueLiteral vs t) ls ≡ false

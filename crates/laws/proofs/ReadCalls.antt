@@ -32,7 +32,7 @@ use Rattle.laws.proofs.Each.Table.{Values, Starts}
 use Rattle.laws.proofs.Holding.{tables-at, cleared-at, holding-full, cleared-full, holding-take, cleared-take, holding-beyond, cleared-beyond, holding-by, cleared-by}
 use Rattle.laws.proofs.Back.{holding-back}
 use Rattle.laws.proofs.Points.{Points, agree-points}
-use Rattle.laws.proofs.Agrees.{holding-agrees}
+use Rattle.laws.proofs.Stands.{stands-in}
 use Rattle.laws.proofs.Turns.{namesLine}
 use Rattle.laws.proofs.Readings.{reading-valid, file-words}
 use Rattle.laws.proofs.Faults.{Placed, refusal-line}
@@ -192,11 +192,11 @@ module _ (lim : Limits) (text : List ℕ) (t : Tables) where
   short-answer : areFull lim t ≡ false → readingOf lim text t .answer ≡ R.Refused (fault ShortTable)
   short-answer h = ap (λ (l : Leaves Read). l .answer) (short-reading h)
 
-  accepted-answer : areFull lim t ≡ true → (f : File) → readText lim text ≡ accepted f → readingOf lim text t .answer ≡ R.Accepted (countsOf (asRead f))
+  pub accepted-answer : areFull lim t ≡ true → (f : File) → readText lim text ≡ accepted f → readingOf lim text t .answer ≡ R.Accepted (countsOf (asRead f))
   unfolding readLeaves
   accepted-answer h f e = ap (λ (l : Leaves Read). l .answer) (full-reading h ∙ ap (readLeaves lim t) e)
 
-  accepted-tables : areFull lim t ≡ true → (f : File) → readText lim text ≡ accepted f → readingOf lim text t .tables ≡ holding lim (asRead f) t
+  pub accepted-tables : areFull lim t ≡ true → (f : File) → readText lim text ≡ accepted f → readingOf lim text t .tables ≡ holding lim (asRead f) t
   unfolding readLeaves
   accepted-tables h f e = ap (λ (l : Leaves Read). l .tables) (full-reading h ∙ ap (readLeaves lim t) e)
 
@@ -214,17 +214,10 @@ filled : (lim : Limits) (f : File) (t : Tables) → Valid lim (asRead f) → are
 unfolding countsOf asRead afresh stateIn
 filled lim f t v full =
     record {
-      valid = v;
-      counts = refl;
-      left = refl;
-      in-full-sizes = holding-take lim (asRead f) t v;
-      beyond = holding-beyond lim (asRead f) t v;
-      state = back;
+      stands = stands-in lim (asRead f) t v full;
       values = ap (λ (s : State). s .values) back;
       words = zero-words;
       worked-out = back ∙ ap (λ (g : File). afresh g (zeros (length (f .names)))) (sym (ap (λ (s : State). s .file) back));
-      full = holding-full lim (asRead f) t v full;
-      agrees = holding-agrees lim (asRead f) t v;
     }
   where
     back : stateIn (countsOf (asRead f)) (holding lim (asRead f) t) ≡ asRead f
@@ -372,7 +365,7 @@ module _ (lim : Limits) (text : List ℕ) (t : Tables) where
   pub reading-agrees : (reasonGiven lim text t ≡ 0) ↔ (agree lim (countsGiven lim text t) (readingOf lim text t .tables) ≡ true)
   reading-agrees = (
     λ q. by-outcome lim text t (λ s. absurd (omega (arith, short-reason s)))
-        (λ full f e. let a = accepted-answer lim text t full f e in given a ∙ reading-accepted (countsOf (asRead f)) a .3 .agrees)
+        (λ full f e. let a = accepted-answer lim text t full f e in given a ∙ reading-accepted (countsOf (asRead f)) a .3 .stands .agrees)
         (λ full e r. absurd (omega (arith, full-reason full, ap reasonIn r, refused-from lim text e r))),
     λ h. by-outcome lim text t (λ s. absurd (disagrees (fault ShortTable) h (short-answer lim text t s))) (λ full f e. full-reason full ∙ ap reasonIn e)
         (λ full e r. absurd (disagrees e h (refused-answer lim text t full e r))),

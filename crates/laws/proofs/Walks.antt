@@ -1,7 +1,7 @@
 -- How walks end: found means that no clause is uncovered, and the walks and flips are bounded. Assumes nothing.
-use Prim.Native.Nat.{ℕ, zero, suc, _+_, _*_, _≤_, _<_}
-use mathlib.Core.Path.{_≡_, refl, sym}
-use mathlib.Core.Bool.{true, false, false≢true}
+use Prim.Native.Nat.{ℕ, zero, suc, _+_, _*_, _≤_, _<_, min}
+use mathlib.Core.Path.{_≡_, refl, sym, _∙_}
+use mathlib.Core.Bool.{true, false, false≢true, true≢false}
 use mathlib.Core.List.{List, [], _∷_}
 use native.Mathlib.Omega.{arith}
 use native.Mathlib.Nat.{mul-comm}
@@ -27,6 +27,14 @@ unfolding onwards
 onwards-flips o zero m = omega arith
 onwards-flips o (suc k) m =
     by-cases (isFound (m .state)) (λ e. rw e omega arith) (λ e. rw e let h = onwards-flips o k (step o m) in let s = step-flips o m in omega arith)
+
+-- and all of them if it does not find
+pub onwards-all : (o : Order) (k : ℕ) (m : Moment) → isFound (onwards o k m .state) ≡ false → onwards o k m .flips ≡ k + m .flips
+unfolding onwards
+onwards-all o zero m = λ h. omega arith
+onwards-all o (suc k) m =
+    by-cases (isFound (m .state)) (λ e. rw e (λ h. absurd (true≢false (sym e ∙ h))))
+    (λ e. rw e (λ h. omega (arith, onwards-all o k (step o m) h, step-flips o m)))
 
 -- what holds of a walk that has found and of what follows one that has not
 pub found-or : (P : Outcome → Type 0) (n : ℕ) (m : Moment) (on : Moment → Outcome) → (isFound (m .state) ≡ true → P (record { found = true; walks = n; last = m }))
@@ -61,6 +69,18 @@ walks-bound o (suc k) n m =
 pub walks-most : (o : Order) (f : File) → walkOver o f .walks ≤ o .walks
 unfolding walkOver
 walks-most o f = let h = walks-bound o (o .walks) 0 (begun o f) in omega arith
+
+-- and at least one, if any is
+walks-least : (o : Order) (k n : ℕ) (m : Moment) → n + min k 1 ≤ walksFrom o k n m .walks
+unfolding walksFrom
+walks-least o zero n m = omega arith
+walks-least o (suc k) n m =
+    let e = onwards o (o .flips) (start m) in
+    found-or (λ e. n + min (suc k) 1 ≤ e .walks) (suc n) e (λ e. walksFrom o k (suc n) e) (λ q. omega arith) (λ q. omega (arith, walks-least o k (suc n) e))
+
+pub some-walk : (o : Order) (f : File) → 0 < o .walks → 0 < walkOver o f .walks
+unfolding walkOver
+some-walk o f h = omega (arith, walks-least o (o .walks) 0 (begun o f))
 
 -- walks are given up when all of them have been begun
 pub gave-up : (o : Order) (k n : ℕ) (m : Moment) → walksFrom o k n m .found ≡ false → walksFrom o k n m .walks ≡ n + k
@@ -107,3 +127,32 @@ flips-bound o (suc k) n m =
 pub flips-most : (o : Order) (f : File) → walkOver o f .last .flips ≤ o .flips * o .walks
 unfolding walkOver
 flips-most o f = rw (mul-comm (o .flips) (o .walks)) (let h = flips-bound o (o .walks) 0 (begun o f) in omega arith)
+
+-- of the walks begun, each makes at most its flips
+flips-begun : (o : Order) (k n : ℕ) (m : Moment) → walksFrom o k n m .last .flips + n * o .flips ≤ m .flips + walksFrom o k n m .walks * o .flips
+unfolding walksFrom
+flips-begun o zero n m = omega arith
+flips-begun o (suc k) n m =
+    let e = onwards o (o .flips) (start m) in
+    let one = onwards-flips o (o .flips) (start m) in
+    let same = start-flips m in
+    found-or (λ e. e .last .flips + n * o .flips ≤ m .flips + e .walks * o .flips) (suc n) e (λ e. walksFrom o k (suc n) e) (λ q. omega arith)
+    (λ q. let h = flips-begun o k (suc n) e in omega arith)
+
+pub flips-few : (o : Order) (f : File) → walkOver o f .last .flips ≤ walkOver o f .walks * o .flips
+unfolding walkOver
+flips-few o f = omega (arith, flips-begun o (o .walks) 0 (begun o f))
+
+-- and all of them if the walks are given up
+flips-all : (o : Order) (k n : ℕ) (m : Moment) → walksFrom o k n m .found ≡ false → walksFrom o k n m .last .flips ≡ k * o .flips + m .flips
+unfolding walksFrom
+flips-all o zero n m = λ h. omega arith
+flips-all o (suc k) n m =
+    let e = onwards o (o .flips) (start m) in
+    let same = start-flips m in
+    found-or (λ e. e .found ≡ false → e .last .flips ≡ suc k * o .flips + m .flips) (suc n) e (λ e. walksFrom o k (suc n) e) (λ q h. absurd (false≢true (sym h)))
+    (λ q h. omega (arith, onwards-all o (o .flips) (start m) q, flips-all o k (suc n) e h))
+
+pub gave-up-flips : (o : Order) (f : File) → walkOver o f .found ≡ false → walkOver o f .last .flips ≡ o .walks * o .flips
+unfolding walkOver
+gave-up-flips o f h = omega (arith, flips-all o (o .walks) 0 (begun o f) h)

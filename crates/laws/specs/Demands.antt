@@ -12,9 +12,10 @@ use Rattle.written.specs.Lists.{all, has, times}
 use Rattle.written.specs.Limits.{Limits}
 use Rattle.written.specs.Clauses.{State, trueCount, breakCount, afresh}
 use Rattle.written.specs.Flips.{flipped}
-use Rattle.written.specs.Tables.{Tables, each, fullSizes, areFull, holding}
+use Rattle.written.specs.Tables.{Tables, areFull}
 use Rattle.written.specs.Agreement.{stateIn, agree}
 use Rattle.written.specs.Outcomes.{flipsOf}
+use Rattle.laws.specs.Calls.{Stands, SameFile}
 
 -- ---- of states
 
@@ -66,19 +67,12 @@ pub record SameButList (k : ℕ) (a b : Tables) : Type 0 where
 
 -- what a call has done that answered with counts m: "Flip lists are applied whole"
 pub record Accepted (lim : Limits) (ts : List ℕ) (n m : Counts) (t : Tables) : Type 0 where
-  -- the tables hold the state after the flips, and nothing else up to their full sizes; what lies past these is untouched
-  pub state : stateIn m (flipsOf lim ts n t .tables) ≡ flipped ts (stateIn n t)
-  pub whole : flipsOf lim ts n t .tables ≡ holding lim (flipped ts (stateIn n t)) t
-  pub beyond : each drop (fullSizes lim) (flipsOf lim ts n t .tables) ≡ each drop (fullSizes lim) t
+  -- the tables hold the state after the flips, and agree with the counts
+  pub stands : Stands lim (flipped ts (stateIn n t)) t m (flipsOf lim ts n t .tables)
   -- that state is the one demanded
   pub after : AfterFlips ts (stateIn n t)
   -- the file's counts are those given
-  pub terms : m .terms ≡ n .terms
-  pub clauses : m .clauses ≡ n .clauses
-  pub literals : m .literals ≡ n .literals
-  -- the tables are full and agree again, so they can be given to the next call
-  pub full : areFull lim (flipsOf lim ts n t .tables) ≡ true
-  pub agrees : agree lim m (flipsOf lim ts n t .tables) ≡ true
+  pub counts : SameFile n m
   -- "two lists that name each term equally often, in any order, leave the same": the other is accepted too, with the same counts
   pub any-order : (us : List ℕ) → ((v : ℕ) → times v ts ≡ times v us)
       → (flipsOf lim us n t .answer ≡ F.Applied m) × SameButList (m .uncovered) (flipsOf lim ts n t .tables) (flipsOf lim us n t .tables)

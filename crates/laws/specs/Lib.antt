@@ -1,4 +1,6 @@
 -- What the laws speak of beside the definitions of `written`.
 pub mod Valid
+pub mod Calls
 pub mod Demands
 pub mod ReadCalls
+pub mod WalkCalls

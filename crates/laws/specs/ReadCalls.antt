@@ -20,35 +20,22 @@ use Rattle.written.specs.Limits.{Limits}
 use Rattle.written.specs.Reasons.{numberOf, fault, faultAt}
 use Rattle.written.specs.Clauses.{File, afresh, asRead}
 use Rattle.written.specs.Reading.{Draft, accepted, refused, goes, drops, numbered, held, nothing, atToken, nextLine, readText}
-use Rattle.written.specs.Tables.{Tables, each, fullSizes, areFull, tablesOf, countsOf, holding, cleared, noCounts}
+use Rattle.written.specs.Tables.{Tables, each, fullSizes, areFull, cleared, noCounts}
 use Rattle.written.specs.Agreement.{fileIn, stateIn, agree}
 use Rattle.written.specs.Outcomes.{readingOf, readValues}
-use Rattle.laws.specs.Valid.{Valid}
+use Rattle.laws.specs.Calls.{Stands}
 
 -- ---- what a call leaves
 
 -- an accepted one, of which f is the file: counts n, and tables u where t stood
 pub record Filled (lim : Limits) (f : File) (t : Tables) (n : Counts) (u : Tables) : Type 0 where
-  -- the file is within the limits, its names valid and different, each clause proper
-  pub valid : Valid lim (asRead f)
-  -- "Beside them go four counts by value: terms, clauses, literals, uncovered."
-  pub counts : n ≡ countsOf (asRead f)
-  -- "A library reads clause text into lent tables": what stood in t up to the full sizes is gone
-  pub left : u ≡ holding lim (asRead f) t
-  -- "Entries past those in use, up to the full size, are 0."
-  pub in-full-sizes : each take (fullSizes lim) u ≡ tablesOf lim (asRead f)
-  -- "A lent table may be longer than its full size; the excess is never read or written."
-  pub beyond : each drop (fullSizes lim) u ≡ each drop (fullSizes lim) t
-  -- the tables hold the file that was read
-  pub state : stateIn n u ≡ asRead f
+  -- "A library reads clause text into lent tables": these hold the file, and agree with the counts
+  pub stands : Stands lim (asRead f) t n u
   -- "An accepted reading leaves every value 0", and so each word of 32
   pub values : stateIn n u .values ≡ zeros (n .terms)
   pub words : take (fullSizes lim .values) (u .values) ≡ zeros (fullSizes lim .values)
   -- "and all counts worked out for that, with the uncovered list in rising clause order"
   pub worked-out : stateIn n u ≡ afresh (fileIn n u) (zeros (n .terms))
-  -- a walk or a flip list on these counts and tables is given neither reason 1 nor reason 12
-  pub full : areFull lim u ≡ true
-  pub agrees : agree lim n u ≡ true
 
 -- one refused by reason 1
 pub record LeftAlone (lim : Limits) (t : Tables) (e : Fault) (u : Tables) : Type 0 where

@@ -1,7 +1,7 @@
 -- The tests of a flip list decide what it answers and leaves. Assumes nothing.
 use Prim.Native.Nat.{ℕ, _+_, _*_, _≤_, _<_}
 use mathlib.Core.Path.{_≡_, refl, ap, sym, _∙_}
-use mathlib.Core.Bool.{Bool, true, false, _&&_, false≢true}
+use mathlib.Core.Bool.{Bool, true, false, false≢true}
 use mathlib.Core.List.{List}
 use lib.ListN.{length}
 use lib.Dec.{ltb}
@@ -26,13 +26,6 @@ use Rattle.lists.specs.Tests.{testsOf, afterTests}
 isPassed : Tested → Bool
 isPassed Passed = true
 isPassed (Failed e) = false
-
--- of two tests made together, the second
-pub agree-no : (a b : Bool) → a ≡ true → (a && b) ≡ false → b ≡ false
-agree-no a b h e = rw h at e
-
-pub agree-yes : (a b : Bool) → a ≡ true → (a && b) ≡ true → b ≡ true
-agree-yes a b h e = rw h at e
 
 module _ (lim : Limits) (ts : List ℕ) (n : Counts) (t : Tables) where
   pub tests-decide : flipsOf lim ts n t ≡ afterTests lim ts n t (testsOf lim ts n t)

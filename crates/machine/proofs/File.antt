@@ -4,7 +4,7 @@ use mathlib.Core.Bool.{true}
 use mathlib.Core.List.{List}
 use Prim.Native.Nat.{ℕ, _*_, _≤_, _<_}
 use native.Mathlib.Omega.{arith}
-use lib.ListN.{length, getD}
+use lib.ListN.{length}
 use borrow.Author.Tests.{leb-true}
 use Rattle.words.specs.Words.{wordCount}
 use Rattle.written.specs.declared.Counts.{Counts}
@@ -20,7 +20,6 @@ use Rattle.machine.specs.Cuts.{Cuts}
 use Rattle.machine.specs.Marks.{CanMark}
 use Rattle.machine.specs.Matching.{CanMatch}
 use Rattle.machine.specs.Tested.{CanCounts}
-use Rattle.machine.specs.Filling.{CanRound}
 use Rattle.machine.proofs.Cuts.{right-cuts, can-cut}
 use Rattle.machine.proofs.Occurrences.{turned-can, turned-part}
 
@@ -94,22 +93,6 @@ module _ (lim : Limits) (n : Counts) (h : countsFit lim n ≡ true) where
             few-terms = omega (arith, counts-fit .terms);
             few-clauses = omega (arith, counts-fit .clauses);
             few-literals = omega (arith, counts-fit .literals);
-          }
-
-      -- the literals can be turned round, with cursors that are 0
-      pub can-round : (top : ℕ) → lim .clauses ≤ top → lim .literals < top → (cu : List ℕ) → 2 * lim .terms ≤ length cu
-          → ((k : ℕ) → k < 2 * lim .terms → getD cu k 0 ≡ 0) → CanRound top (n .terms) (n .clauses) (n .literals) ss ls os oc cu
-      can-round top mc ml cu mu z =
-          record {
-            cut = cuts;
-            right = literals-right;
-            few-clauses = omega (arith, counts-fit .clauses);
-            few-literals = omega (arith, counts-fit .literals);
-            literals = literals-room _ lr;
-            starts-room = runs-room;
-            room = occurrences-room;
-            cursors-room = omega (arith, counts-fit .terms);
-            zero = λ k l. z k (omega (arith, counts-fit .terms));
           }
 
       -- and occurrences that are

@@ -58,5 +58,6 @@ pub mod Summing
 pub mod Filling
 pub mod Rounds
 pub mod Rounding
--- a flip list on tables that agree
+-- tables that agree, and a flip list on them
+pub mod Agreed
 pub mod Applied

@@ -69,8 +69,3 @@ module _ (lim : Limits) (top : ℕ) (fc : lim .clauses + 1 < top) (ft : 2 * lim 
       (sizes-trans (flips-sizes x ts (opened C x w)) (opened-sizes C x w))
       (kept-trans (opened-kept C (length (s .values)) x w) (flips-kept top ts s x (opened C x w) walking b))
       words-are
-
-  -- and what it only reads is the same
-  pub flips-fixed : fixedIn (holding lim r t) ≡ x
-  unfolding holding tablesOf each inUse
-  flips-fixed = rw (flipped-file ts s)

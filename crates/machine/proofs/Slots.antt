@@ -6,14 +6,13 @@ use Prim.Native.Nat.{ℕ, _+_, _-_, _%_, _≤_, _<_}
 use native.Mathlib.Nat.{mod-lt}
 use native.Mathlib.Numerals.{add-one}
 use native.Mathlib.Omega.{arith}
-use lib.ListN.{length, getD, take, set, length-set, length-append, length-replicate, List·getD-append}
+use lib.ListN.{length, getD, take, set, length-set, length-append, List·getD-append}
 use lib.Seq.{length-take-le, take-suc, take-all, getD-take, getD-append-seam, getD-set-same, getD-set-other}
-use Rattle.written.specs.Lists.{has, placeOf, differ, zeros}
+use Rattle.written.specs.Lists.{has, placeOf, differ}
 use Rattle.laws.proofs.Basics.{by-cases, by-eq, by-lt}
 use Rattle.laws.proofs.Membership.{has-getD, placeOf-lt, placeOf-getD, differ-snoc}
 use Rattle.laws.proofs.Times.{differ-times, placeOf-once}
 use Rattle.machine.specs.Slots.{Reached, Indexed, Vacant}
-use Rattle.machine.proofs.Marks.{none-marked}
 
 -- ---- names that differ
 
@@ -182,15 +181,15 @@ module _ (H L : ℕ) (known slots : List ℕ) (ix : Indexed H L known slots) (na
 
 -- ---- the names of a table put in one after another
 
-pub none-known : (H L n : ℕ) → 0 < H → H + L < n → Indexed H L [] (zeros n)
-none-known H L n some room =
+pub none-known : (H L : ℕ) (slots : List ℕ) → 0 < H → H + L < length slots → ((j : ℕ) → j ≤ H + L → getD slots j 0 ≡ 0) → Indexed H L [] slots
+none-known H L slots some room zero =
     record {
       some = some;
       few = omega arith;
-      room = omega (arith, length-replicate {A = ℕ} n 0);
+      room = room;
       apart = refl;
-      low = λ j l. omega (arith, none-marked n j);
-      bare = λ j l m. none-marked n j;
+      low = λ j l. omega (arith, zero j l);
+      bare = λ j _ l. zero j l;
       reached = λ k l. absurd (omega arith);
     }
 

@@ -27,6 +27,13 @@ said-no {r} h e = by-cases r (λ q. absurd (false≢true (rw q at h))) (λ q. sy
 pub said-yes : {r b : Bool} → not r ≡ false → r ≡ b → b ≡ true
 said-yes {r} h e = by-cases r (λ q. sym e ∙ q) (λ q. absurd (false≢true (sym (rw q at h))))
 
+-- what the second of two tests said that were made together, where the first holds
+pub second-no : (a b : Bool) → a ≡ true → (a && b) ≡ false → b ≡ false
+second-no a b h e = rw h at e
+
+pub second-yes : (a b : Bool) → a ≡ true → (a && b) ≡ true → b ≡ true
+second-yes a b h e = rw h at e
+
 module _ (p : ℕ → Bool) where
   pub tested-more : (i : ℕ) → all p (below i) ≡ true → p i ≡ true → all p (below (i + 1)) ≡ true
   tested-more i h e = below-all p (i + 1) (λ k l. by-eq k i (λ q. rw q e) (λ q. all-below p i k (omega arith) h))

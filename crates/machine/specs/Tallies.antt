@@ -5,7 +5,7 @@ use mathlib.Core.Path.{_≡_}
 use mathlib.Core.Bool.{cond}
 use mathlib.Core.List.{List, [], _∷_}
 use lib.ListN.{length, getD, set}
-use lib.Dec.{eqb}
+use lib.Dec.{eqb, ltb}
 use lib.Bits.{bitXor}
 use Rattle.machine.specs.Uncovered.{Uncovered, leaves, marks, enters, CanLeave, CanEnter}
 
@@ -51,10 +51,14 @@ loseOne v c t =
       uncovered = cond (eqb (getD (t .trues) c 0) 1) (enters c (t .uncovered)) (marks c (bitXor (getD (t .uncovered .places) c 0) v) (t .uncovered));
     }
 
--- what is done in place of a branch: entry p with 1 where k is m, else entry v with 0
+-- what is done in place of a branch: entry p with 1 where k is below m, else entry v with 0
 unfoldable pub pickOf : ℕ → ℕ → ℕ → ℕ → ℕ
-pickOf k m p v = cond (eqb k m) p v
+pickOf k m p v = cond (ltb k m) p v
 
+unfoldable pub belowOf : ℕ → ℕ → ℕ
+belowOf k m = cond (ltb k m) 1 0
+
+-- 1 where k is m, else 0
 unfoldable pub hitOf : ℕ → ℕ → ℕ
 hitOf k m = cond (eqb k m) 1 0
 

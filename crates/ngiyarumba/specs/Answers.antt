@@ -1,11 +1,21 @@
 -- The answers as they cross the boundary: the values that document 01 gives each case. Assumes nothing.
 use Prim.Native.Nat.{ℕ}
+use Rattle.draw.specs.declared.Drawn.{Drawn}
 use Rattle.written.specs.declared.Counts.{Counts}
+use Rattle.written.specs.declared.Order.{Order}
 use Rattle.written.specs.declared.Read.{Read}
+use Rattle.written.specs.declared.Tour.{Tour}
+use Rattle.written.specs.declared.Walked.{Walked}
 use Rattle.written.specs.declared.Flipped.{Flipped}
-use Rattle.written.specs.Outcomes.{readValues, flipValues}
+use Rattle.written.specs.Outcomes.{readValues, walkValues, flipValues}
+use Rattle.ngiyarumba.specs.declared.draws.DrawAnswer.{DrawAnswer}
 use Rattle.ngiyarumba.specs.declared.read.ReadAnswer.{ReadAnswer}
+use Rattle.ngiyarumba.specs.declared.walk.WalkAnswer.{WalkAnswer}
 use Rattle.ngiyarumba.specs.declared.flip.FlipAnswer.{FlipAnswer}
+
+-- an order, its numbers given one by one
+abbrev pub order : ℕ → ℕ → ℕ → ℕ → Order
+order s f w b = record { seed = s; flips = f; walks = w; bias = b }
 
 -- four counts, given one by one
 abbrev pub counts : ℕ → ℕ → ℕ → ℕ → Counts
@@ -35,3 +45,35 @@ readAnswer a =
       literals = readValues a .counts .literals;
       uncovered = readValues a .counts .uncovered;
     }
+
+-- the answer of a walk
+unfoldable pub walkAnswer : Walked → WalkAnswer
+walkAnswer a =
+    record {
+      result = walkValues a .result;
+      reason = walkValues a .reason;
+      walks = walkValues a .walks;
+      flips = walkValues a .flips;
+      terms = walkValues a .counts .terms;
+      clauses = walkValues a .counts .clauses;
+      literals = walkValues a .counts .literals;
+      uncovered = walkValues a .counts .uncovered;
+    }
+
+-- that of a walk that was made, under the number of its result
+abbrev pub tourAnswer : ℕ → Tour → WalkAnswer
+tourAnswer k e =
+    record {
+      result = k;
+      reason = 0;
+      walks = e .walks;
+      flips = e .flips;
+      terms = e .counts .terms;
+      clauses = e .counts .clauses;
+      literals = e .counts .literals;
+      uncovered = e .counts .uncovered;
+    }
+
+-- the answer of a draw, a choice or heads
+unfoldable pub drawAnswer : Drawn → DrawAnswer
+drawAnswer d = record { reason = d .reason; number = d .number; state = d .next .state }

@@ -2,6 +2,7 @@ use mathlib.Core.Path.{_≡_, refl, _∙_}
 use Prim.Native.Nat.{_-_}
 use native.Mathlib.Omega.{arith}
 use lib.ListN.{length}
+use mir.Facts.{fits-16-64}
 use Rattle.machine.specs.Tallies.{tallies, SameSizes}
 use Rattle.machine.specs.Moving.{moving, occurring, flipTerm, CanFlip}
 use Rattle.machine.proofs.Runs.{Running, begun, next-can, again, ended}
@@ -39,5 +40,5 @@ loop-again c =
 pub flip-all-spec : {M : Type 1} → statement M
 flip-all-spec =
     tie.close
-    (tie.spec Inv-loop μ-loop loop-holds (λ c. search needs) (λ c. search needs) flip-term-requires add-i (λ c. search needs) loop-again (λ c. search needs)
-    (λ c. search needs) (λ c. search needs) (λ c. search needs) (λ c. search needs) (λ c. search ended))
+    (tie.spec Inv-loop μ-loop loop-holds (λ c. search needs) (λ c. search needs) (λ c. fits-16-64 (c .shared-slice-known4 .given _)) flip-term-requires add-i
+    (λ c. search needs) loop-again (λ c. search needs) (λ c. search needs) (λ c. search needs) (λ c. search needs) (λ c. search needs) (λ c. search ended))

@@ -1,3 +1,4 @@
+use native.Mathlib.Omega.{arith}
 use Rattle.machine.proofs.Calls.{other-down, can-up, can-down, can-gain, is-gained, can-lose, is-flipped}
 use borrow.Author.Needs.{needs}
 use Rattle.flips.proofs.flip_term.Statement.{statement}
@@ -7,7 +8,9 @@ part-requires : tie.Need-part-requires
 part-requires c κs = can-up _ _ _ (c .before .before .before .before .before .before .before .before .before .before .before .before .before .pre) (c .before .before .before .before .up-literal .ensures)
 
 gain-run-requires : tie.Need-gain-run-requires
-gain-run-requires c κs = can-gain _ _ _ (c .before .before .before .before .before .before .before .before .before .before .before .before .before .before .before .before .before .before .pre) (c .before .before .before .before .part .ensures) (c .before .before .before .before .before .before .before .before .before .up-literal .ensures)
+gain-run-requires c κs =
+    let can = c .before .before .before .before .before .before .before .before .before .before .before .before .before .before .before .before .before .before .pre in
+    (can-gain _ _ _ can (c .before .before .before .before .part .ensures) (c .before .before .before .before .before .before .before .before .before .up-literal .ensures), omega (arith, can .small))
 
 part-requires-2 : tie.Need-part-requires-2
 part-requires-2 c κs = can-down _ _ _ (c .before .before .before .before .before .before .before .before .before .before .before .before .before .before .before .before .before .before .before .before .before .before .before .before .before .before .before .pre) (other-down _ _ (c .before .before .before .before .before .before .before .before .before .before .before .before .before .before .before .before .before .before .up-literal .ensures))
@@ -16,7 +19,8 @@ lose-run-requires : tie.Need-lose-run-requires
 lose-run-requires c κs =
     let g = c .before .before .before .before .before .before .before .before .before .before .before .before .before in
     let up = g .before .before .before .before .before .before .before .before .before .before .up-literal .ensures in
-    can-lose _ _ _ (g .before .before .before .before .before .before .before .before .before .before .before .before .before .before .before .before .before .before .before .pre) (is-gained _ _ _ (g .gain-run .ensures) (g .before .before .before .before .before .part .ensures) up) (c .before .before .before .before .part2 .ensures) (other-down _ _ up)
+    let can = g .before .before .before .before .before .before .before .before .before .before .before .before .before .before .before .before .before .before .before .pre in
+    (can-lose _ _ _ can (is-gained _ _ _ (g .gain-run .ensures) (g .before .before .before .before .before .part .ensures) up) (c .before .before .before .before .part2 .ensures) (other-down _ _ up), omega (arith, can .small))
 
 returns : tie.Need-returns
 returns c =

@@ -16,7 +16,7 @@ abbrev μ-loop : tie.MeasureT-loop
 μ-loop run trues₀ breaks₀ list₀ places₀ number v n₀ i₀ trues breaks list places n i = length run - i
 
 gain-one-requires : tie.Need-gain-one-requires Inv-loop μ-loop
-gain-one-requires c κs = next-can _ _ _ _ _ _ (c .before .before .before .before .before .before .loop .inv .0) (c .before .before .before .before .before .loop-test .taken)
+gain-one-requires c κs = (next-can _ _ _ _ _ _ (c .before .before .before .before .before .before .loop .inv .0) (c .before .before .before .before .before .loop-test .taken), c .before .before .before .before .before .before .before .before .before .before .before .before .pre .1)
 
 loop-again : tie.Need-loop-again Inv-loop μ-loop
 loop-again c =

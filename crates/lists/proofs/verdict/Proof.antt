@@ -2,9 +2,8 @@
 use mathlib.Core.Path.{refl}
 use borrow.Author.Needs.{needs}
 use borrow.Author.Tests.{lt-ltb, le-ltb}
-use Rattle.machine.proofs.Tests.{said-no, said-yes}
+use Rattle.machine.proofs.Tests.{said-no, said-yes, second-no, second-yes}
 use Rattle.lists.specs.Tests.{testsOf}
-use Rattle.lists.proofs.Laws.{agree-no, agree-yes}
 use Rattle.lists.proofs.verdict.Statement.{statement}
 use Rattle.lists.proofs.verdict.Tie as tie
 
@@ -20,19 +19,19 @@ returns-3 : tie.Need-returns-3
 unfolding testsOf
 returns-3 c =
     let full = said-yes (c .before .before .before .if1 .left) (c .before .before .before .before .are-full .ensures) in
-    rw (full, le-ltb _ _ (c .before .before .if2 .left), agree-no _ _ full (said-no (c .if3 .taken) (c .before .agrees .ensures))) refl
+    rw (full, le-ltb _ _ (c .before .before .if2 .left), second-no _ _ full (said-no (c .if3 .taken) (c .before .agrees .ensures))) refl
 
 returns-4 : tie.Need-returns-4
 unfolding testsOf
 returns-4 c =
     let full = said-yes (c .before .before .before .before .before .if1 .left) (c .before .before .before .before .before .before .are-full .ensures) in
-    rw (full, le-ltb _ _ (c .before .before .before .before .if2 .left), agree-yes _ _ full (said-yes (c .before .before .if3 .left) (c .before .before .before .agrees .ensures)), said-no (c .if4 .taken) (c .before .known .ensures)) refl
+    rw (full, le-ltb _ _ (c .before .before .before .before .if2 .left), second-yes _ _ full (said-yes (c .before .before .if3 .left) (c .before .before .before .agrees .ensures)), said-no (c .if4 .taken) (c .before .known .ensures)) refl
 
 returns-5 : tie.Need-returns-5
 unfolding testsOf
 returns-5 c =
     let full = said-yes (c .before .before .before .before .before .if1 .left) (c .before .before .before .before .before .before .are-full .ensures) in
-    rw (full, le-ltb _ _ (c .before .before .before .before .if2 .left), agree-yes _ _ full (said-yes (c .before .before .if3 .left) (c .before .before .before .agrees .ensures)), said-yes (c .if4 .left) (c .before .known .ensures)) refl
+    rw (full, le-ltb _ _ (c .before .before .before .before .if2 .left), second-yes _ _ full (said-yes (c .before .before .if3 .left) (c .before .before .before .agrees .ensures)), said-yes (c .if4 .left) (c .before .known .ensures)) refl
 
 pub verdict-spec : {M : Type 1} → statement M
 verdict-spec =

@@ -1,7 +1,8 @@
+-- `choosing::hit` meets its contract: each way out has the test that leads there. Assumes nothing.
 use borrow.Author.Tests.{eq-eqb, ne-eqb}
 use Rattle.machine.specs.Tallies.{hitOf}
-use Rattle.flips.proofs.hit.Statement.{statement}
-use Rattle.flips.proofs.hit.Tie as tie
+use Rattle.choosing.proofs.hit.Statement.{statement}
+use Rattle.choosing.proofs.hit.Tie as tie
 
 pub hit-spec : {M : Type 1} → statement M
 unfolding hitOf

@@ -1,0 +1,134 @@
+/*
+ * Walks through ngi_walk and through the plain C version. KIND is 3-SAT, for clauses of three random literals, or 2..MOST, for orphans with
+ * that many parents to choose from.
+ *
+ *   walks check KIND TERMS CLAUSES             gives both the same orders, on this file and on an easier one; the status is 0 where answers
+ *                                              and tables are the same throughout, given up on this one, found on the easier
+ *   walks time KIND TERMS CLAUSES              flips per second, and microseconds for a walk of no flips: of each ngi_walk's, the plain
+ *                                              version's and how many times as quick ngi_walk is
+ *   walks run KIND TERMS CLAUSES SIDE FLIPS    one walk by one side, ngi or plain, so that instructions can be counted; none makes no walk.
+ *                                              The status is 0 where all its flips are made
+ */
+#include <stdint.h>
+#include <stdio.h>
+#include <string.h>
+
+#include "common.h"
+#include "files.h"
+#include "plain.h"
+
+enum { REFUSED = 0, FOUND = 1, GAVE_UP = 2 };
+enum { SEED = 1, BIAS = 400, SEEDS_CHECKED = 8, ROUNDS = 5, FLIPS_TIMED = 100000, WITHOUT_FLIPS_TIMED = 64 };
+
+typedef __typeof__(ngi_walk) walk_function;
+
+struct order {
+    uint32_t seed, flips, walks, bias;
+};
+
+static struct tables one, other;
+
+static void make_file(const char *kind, uint32_t terms, uint32_t clauses)
+{
+    memset(&one, 0, sizeof one);
+    if (strcmp(kind, "3-SAT") == 0)
+        make_three_sat(&one, terms, clauses);
+    else
+        make_placement(&one, terms, clauses, number(kind + sizeof "2.." - 1));
+}
+
+/* --- calls --- */
+
+static ngi_walk_answer walk(walk_function *by, struct tables *t, struct order o)
+{
+    ngi_walk_answer answer = by(o.seed, o.flips, o.walks, o.bias, t->terms, t->clauses, t->literals, t->uncovered, LENT(t->names),
+                                LENT(t->values), LENT(t->starts), LENT(t->literals_table), LENT(t->occurrence_starts), LENT(t->occurrences),
+                                LENT(t->true_counts), LENT(t->break_counts), LENT(t->uncovered_list), LENT(t->places));
+    t->uncovered = answer.uncovered;
+    return answer;
+}
+
+/* A walk that makes all its flips. */
+static void walk_on(walk_function *by, struct tables *t, uint32_t flips)
+{
+    ngi_walk_answer answer = walk(by, t, (struct order){SEED, flips, 1, BIAS});
+    if (answer.result != GAVE_UP || answer.flips != flips)
+        fail("the walk is refused, or finds before its flips are made");
+}
+
+static void walk_by_both(struct order o, uint32_t result)
+{
+    ngi_walk_answer answer, other_answer;
+    memcpy(&other, &one, sizeof one);
+    answer = walk(ngi_walk, &one, o);
+    other_answer = walk(plain_walk, &other, o);
+    if (memcmp(&answer, &other_answer, sizeof answer) != 0)
+        fail("the two answer differently");
+    if (memcmp(&one, &other, sizeof one) != 0)
+        fail("the two leave different tables");
+    if (answer.result != result)
+        fail("found, given up or refused where it should not be");
+}
+
+/* The easier file has a quarter of the clauses, or those that its orphans need. */
+static int check(const char *kind, uint32_t terms, uint32_t clauses)
+{
+    static const struct order given_up[] = {{1, 0, 1, 400}, {2, 1, 3, 400}, {3, 4000, 1, 0}, {4, 4000, 2, 400}, {4294967295, 4000, 1, 1000}};
+    static const struct order refused[] = {{0, 1, 1, 400}, {1, 100001, 1, 400}, {1, 1, 0, 400}, {1, 1, 1001, 400}, {1, 1, 1, 1001}};
+    for (size_t at = 0; at < sizeof given_up / sizeof *given_up; at++)
+        walk_by_both(given_up[at], GAVE_UP);
+    for (size_t at = 0; at < sizeof refused / sizeof *refused; at++)
+        walk_by_both(refused[at], REFUSED);
+    make_file(kind, terms, clauses / 4);
+    for (uint32_t seed = 1; seed <= SEEDS_CHECKED; seed++)
+        walk_by_both((struct order){seed, 100000, 1, BIAS}, FOUND);
+    one.uncovered++;
+    walk_by_both((struct order){SEED, 1, 1, BIAS}, REFUSED);
+    return 0;
+}
+
+/* Seconds for one walk, the least of the rounds so far. */
+static void time_walks(walk_function *by, struct tables *t, uint32_t flips, int walks, double *least)
+{
+    double start = seconds();
+    for (int done = 0; done < walks; done++)
+        walk_on(by, t, flips);
+    keep_least(least, (seconds() - start) / walks);
+}
+
+/* The two take turns, so that what slows the machine slows both. */
+static int time_both(void)
+{
+    double full[2] = {0}, empty[2] = {0};
+    memcpy(&other, &one, sizeof one);
+    for (int round = 0; round < ROUNDS; round++) {
+        time_walks(ngi_walk, &one, FLIPS_TIMED, 1, &full[0]);
+        time_walks(plain_walk, &other, FLIPS_TIMED, 1, &full[1]);
+        time_walks(ngi_walk, &one, 0, WITHOUT_FLIPS_TIMED, &empty[0]);
+        time_walks(plain_walk, &other, 0, WITHOUT_FLIPS_TIMED, &empty[1]);
+    }
+    printf("%.0f %.0f %.2f ", FLIPS_TIMED / full[0], FLIPS_TIMED / full[1], full[1] / full[0]);
+    printf("%.1f %.1f %.2f\n", 1e6 * empty[0], 1e6 * empty[1], empty[1] / empty[0]);
+    return 0;
+}
+
+static int run(const char *side, uint32_t flips)
+{
+    if (strcmp(side, "none") != 0)
+        walk_on(strcmp(side, "ngi") == 0 ? ngi_walk : plain_walk, &one, flips);
+    return 0;
+}
+
+int main(int count, char **words)
+{
+    if (count >= 5)
+        make_file(words[2], number(words[3]), number(words[4]));
+    if (count == 5 && strcmp(words[1], "check") == 0)
+        return check(words[2], number(words[3]), number(words[4]));
+    if (count == 5 && strcmp(words[1], "time") == 0)
+        return time_both();
+    if (count == 7 && strcmp(words[1], "run") == 0)
+        return run(words[5], number(words[6]));
+    printf("usage: walks check|time KIND TERMS CLAUSES, or walks run KIND TERMS CLAUSES ngi|plain|none FLIPS\n");
+    return 2;
+}

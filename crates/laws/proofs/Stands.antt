@@ -1,0 +1,57 @@
+-- A valid state written into full tables stands there, as calls leave it: the next call is given neither reason 1 nor reason 12, and a file's
+-- counts are those given. Assumes nothing.
+use Prim.Native.Nat.{ℕ, _≤_}
+use mathlib.Core.Path.{_≡_, refl, ap, _∙_}
+use mathlib.Core.Bool.{true}
+use mathlib.Core.List.{List}
+use lib.ListN.{length}
+use lib.Dec.{ltb}
+use Rattle.written.specs.declared.Counts.{Counts}
+use Rattle.written.specs.declared.Order.{Order}
+use Rattle.written.specs.Lists.{total, all}
+use Rattle.written.specs.Limits.{Limits}
+use Rattle.written.specs.Clauses.{File, State}
+use Rattle.written.specs.Tables.{Tables, areFull, countsOf, holding}
+use Rattle.written.specs.Agreement.{stateIn, agree}
+use Rattle.written.specs.Orders.{inRange}
+use Rattle.laws.specs.Valid.{Valid}
+use Rattle.laws.specs.Calls.{Stands, SameFile}
+use Rattle.laws.specs.Demands.{Acceptable}
+use Rattle.laws.specs.WalkCalls.{Allowed}
+use Rattle.laws.proofs.Holding.{holding-take, holding-beyond, holding-full}
+use Rattle.laws.proofs.Back.{holding-back}
+use Rattle.laws.proofs.Agreeing.{agree-counts}
+use Rattle.laws.proofs.Agrees.{holding-agrees}
+
+pub stands-in : (lim : Limits) (s : State) (t : Tables) → Valid lim s → areFull lim t ≡ true → Stands lim s t (countsOf s) (holding lim s t)
+stands-in lim s t v full =
+    record {
+      valid = v;
+      counts = refl;
+      state = holding-back lim s t v;
+      left = refl;
+      in-full-sizes = holding-take lim s t v;
+      beyond = holding-beyond lim s t v;
+      full = holding-full lim s t v full;
+      agrees = holding-agrees lim s t v;
+    }
+
+-- where a state stands, a flip list and a walk can follow
+module _ (lim : Limits) (s : State) (t : Tables) (m : Counts) (u : Tables) (h : Stands lim s t m u) where
+  pub stands-acceptable : (ts : List ℕ) → length ts ≤ lim .list → all (λ v. ltb v (m .terms)) ts ≡ true → Acceptable lim ts m u
+  stands-acceptable ts short known = record { full = h .full; short = short; agrees = h .agrees; known = known }
+
+  pub stands-allowed : (o : Order) → inRange o ≡ true → Allowed lim o m u
+  stands-allowed o range = record { full = h .full; range = range; agrees = h .agrees }
+
+-- a state on the file that stood has the counts that were given, but for the uncovered
+pub same-file : (lim : Limits) (n : Counts) (t : Tables) (s : State) → agree lim n t ≡ true → areFull lim t ≡ true → s .file ≡ stateIn n t .file
+    → SameFile n (countsOf s)
+unfolding countsOf
+same-file lim n t s ok full e =
+    let given = agree-counts lim n t ok full in
+    record {
+      terms = ap (λ (f : File). length (f .names)) e ∙ ap (λ (m : Counts). m .terms) given;
+      clauses = ap (λ (f : File). length (f .clauses)) e ∙ ap (λ (m : Counts). m .clauses) given;
+      literals = ap (λ (f : File). total length (f .clauses)) e ∙ ap (λ (m : Counts). m .literals) given;
+    }

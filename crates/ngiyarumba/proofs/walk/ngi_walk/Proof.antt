@@ -1,0 +1,15 @@
+-- `ngiyarumba::walk::ngi_walk` meets its contract: it is `walks::walk`, its answer taken apart. Assumes nothing.
+use mathlib.Core.Path.{ap, _∙_}
+use borrow.Author.Needs.{needs}
+use Rattle.ngiyarumba.specs.Answers.{walkAnswer}
+use Rattle.ngiyarumba.proofs.walk.ngi_walk.Statement.{statement}
+use Rattle.ngiyarumba.proofs.walk.ngi_walk.Tie as tie
+
+returns : tie.Need-returns
+returns c = let e = c .before .before .before .before .before .before .before .before .before .before .before .walk .ensures in (c .walk-answer .ensures ∙ ap walkAnswer (e .0), e .1)
+
+pub ngi-walk-spec : {M : Type 1} → statement M
+ngi-walk-spec =
+    tie.close
+    (tie.spec (λ c κs. search needs) (λ c κs. search needs) (λ c. search needs) (λ c. search needs) (λ c. search needs) (λ c. search needs)
+    (λ c. search needs) returns)

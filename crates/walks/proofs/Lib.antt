@@ -1,0 +1,6 @@
+-- The functions' proofs stand beside their names; here what they lean on.
+pub mod Ranges
+pub mod Decided
+pub mod Followed
+pub mod Loop
+pub mod Outcome

@@ -1,0 +1,30 @@
+-- The tests of a walk, in their order: "1, 11, 12". Assumes nothing.
+use mathlib.Core.Bool.{not, cond}
+use Rattle.written.specs.declared.Counts.{Counts}
+use Rattle.written.specs.declared.Order.{Order}
+use Rattle.written.specs.declared.Walked.{Walked}
+use Rattle.written.specs.declared.Reason.the-variants.{ShortTable, OutOfRange, Disagreement}
+use Rattle.written.specs.Limits.{Limits}
+use Rattle.written.specs.Tables.{Tables, areFull}
+use Rattle.written.specs.Agreement.{fileIn, agree}
+use Rattle.written.specs.Orders.{inRange}
+use Rattle.written.specs.Outcomes.{Leaves, walkRefused, walkLeaves}
+use Rattle.written.specs.Walk.{walkOver}
+use Rattle.walks.specs.declared.Tested.{Tested}
+use Rattle.walks.specs.declared.Tested.the-variants.{Passed, Failed}
+
+-- what they come to
+unfoldable pub testsOf : Limits → Order → Counts → Tables → Tested
+testsOf lim o n t =
+    cond (not (areFull lim t)) (Failed ShortTable)
+    (cond (not (inRange o)) (Failed OutOfRange)
+    (cond (not (agree lim n t)) (Failed Disagreement) Passed))
+
+-- what a walk answers and leaves once it is made
+abbrev pub walkMade : Limits → Order → Counts → Tables → Leaves Walked
+walkMade lim o n t = walkLeaves lim t (walkOver o (fileIn n t))
+
+-- what a walk then answers and leaves
+unfoldable pub afterTests : Limits → Order → Counts → Tables → Tested → Leaves Walked
+afterTests lim o n t Passed = walkMade lim o n t
+afterTests lim o n t (Failed e) = walkRefused n t e
