@@ -2,10 +2,14 @@
  * Calls the library for programs that cannot link it: each request on standard input is one call, its answer goes to standard output.
  * Numbers are little-endian; a request begins with its opcode, and everything but entries and bytes of text is 32 bits wide.
  *
- *   opcode  request                                                       answer
- *   1 lend  the lengths of the ten tables, then the entries of each       none: the tables are kept for the calls that follow
- *   2 flip  the list's length, its entries, four counts                   status, the six numbers of ngi_flip_answer, list, ten tables
- *   3 read  the text's length, its bytes                                  status, the seven numbers of ngi_read_answer, text, ten tables
+ *   opcode    request                                                    answer
+ *   1 lend    the lengths of the ten tables, then the entries of each    none: the tables are kept for the calls that follow
+ *   2 flip    the list's length, its entries, four counts                status, the six numbers of ngi_flip_answer, list, ten tables
+ *   3 read    the text's length, its bytes                               status, the seven numbers of ngi_read_answer, text, ten tables
+ *   4 walk    seed, flips, walks, bias, four counts                      status, the eight numbers of ngi_walk_answer, ten tables
+ *   5 draw    a state                                                    the three numbers of ngi_drawn
+ *   6 choice  a state, how many to choose among                          the same
+ *   7 heads   a state, a bias                                            the same
  *
  * Guards stand before and after all that is lent. The status is 0 where every guard is as it was, else one more than the number of the
  * first table that has lost one, or 11 for the list or the text. The end of the input ends the program.
@@ -16,7 +20,7 @@
 
 #include "ngiyarumba.h"
 
-enum { LEND = 1, FLIP = 2, READ = 3 };
+enum { LEND = 1, FLIP = 2, READ = 3, WALK = 4, DRAW = 5, CHOICE = 6, HEADS = 7 };
 enum { TABLES = 10, GUARD = 64 };
 enum { INPUT_CUT = 1, OUTPUT_CLOSED = 2, NO_MEMORY = 3, UNKNOWN_OPCODE = 4 };
 
@@ -121,13 +125,13 @@ static void give_entries(const struct lent *lent)
     give(entries(lent), lent->count * lent->width);
 }
 
-/* Of the tables and of what was lent beside them. */
+/* Of the tables and of what was lent beside them, if anything was. */
 static uint32_t status(const struct lent *beside)
 {
     for (uint32_t table = 0; table < TABLES; table++)
         if (!guards_stand(&tables[table]))
             return table + 1;
-    return guards_stand(beside) ? 0 : TABLES + 1;
+    return beside == NULL || guards_stand(beside) ? 0 : TABLES + 1;
 }
 
 /* --- requests --- */
@@ -145,12 +149,16 @@ static void give_answer(const void *answer, size_t size, const struct lent *besi
     uint32_t found = status(beside);
     give(&found, sizeof found);
     give(answer, size);
-    give_entries(beside);
+    if (beside != NULL)
+        give_entries(beside);
     for (int table = 0; table < TABLES; table++)
         give_entries(&tables[table]);
 }
 
 #define LENT(lent) entries(&(lent)), (lent).count
+#define LENT_TABLES                                                                              \
+    LENT(tables[0]), LENT(tables[1]), LENT(tables[2]), LENT(tables[3]), LENT(tables[4]),         \
+        LENT(tables[5]), LENT(tables[6]), LENT(tables[7]), LENT(tables[8]), LENT(tables[9])
 
 static void flip(void)
 {
@@ -158,9 +166,7 @@ static void flip(void)
     renew(&list, take_number());
     take_entries(&list);
     take(counts, sizeof counts);
-    ngi_flip_answer answer =
-        ngi_flip(LENT(list), counts[0], counts[1], counts[2], counts[3], LENT(tables[0]), LENT(tables[1]), LENT(tables[2]), LENT(tables[3]),
-                 LENT(tables[4]), LENT(tables[5]), LENT(tables[6]), LENT(tables[7]), LENT(tables[8]), LENT(tables[9]));
+    ngi_flip_answer answer = ngi_flip(LENT(list), counts[0], counts[1], counts[2], counts[3], LENT_TABLES);
     give_answer(&answer, sizeof answer, &list);
 }
 
@@ -168,10 +174,40 @@ static void read_text(void)
 {
     renew(&text, take_number());
     take_entries(&text);
-    ngi_read_answer answer =
-        ngi_read(LENT(text), LENT(tables[0]), LENT(tables[1]), LENT(tables[2]), LENT(tables[3]), LENT(tables[4]), LENT(tables[5]),
-                 LENT(tables[6]), LENT(tables[7]), LENT(tables[8]), LENT(tables[9]));
+    ngi_read_answer answer = ngi_read(LENT(text), LENT_TABLES);
     give_answer(&answer, sizeof answer, &text);
+}
+
+static void walk(void)
+{
+    uint32_t order[4], counts[4];
+    take(order, sizeof order);
+    take(counts, sizeof counts);
+    ngi_walk_answer answer =
+        ngi_walk(order[0], order[1], order[2], order[3], counts[0], counts[1], counts[2], counts[3], LENT_TABLES);
+    give_answer(&answer, sizeof answer, NULL);
+}
+
+static void give_drawn(ngi_drawn drawn)
+{
+    give(&drawn, sizeof drawn);
+}
+
+static void draw(void)
+{
+    give_drawn(ngi_draw(take_number()));
+}
+
+static void choice(void)
+{
+    uint32_t state = take_number();
+    give_drawn(ngi_choice(state, take_number()));
+}
+
+static void heads(void)
+{
+    uint32_t state = take_number();
+    give_drawn(ngi_heads(state, take_number()));
 }
 
 int main(void)
@@ -187,6 +223,18 @@ int main(void)
             break;
         case READ:
             read_text();
+            break;
+        case WALK:
+            walk();
+            break;
+        case DRAW:
+            draw();
+            break;
+        case CHOICE:
+            choice();
+            break;
+        case HEADS:
+            heads();
             break;
         default:
             exit(UNKNOWN_OPCODE);

@@ -66,16 +66,17 @@ fn least_break(breaks: &[u16], clause: &[u16]) -> u16
     requires { ⌜ HaveBreaks (now breaks) (now clause) × (0 < length (now clause)) ⌝ }
     ensures { λ r. ⌜ r ≡ leastBy (breakIn (now (breaks .entry))) (now (clause .entry)) ⌝ }
 {
-    let mut m = break_of(breaks, clause[0]);
+    let mut low = break_of(breaks, clause[0]);
     let mut i = 1;
     while i < clause.len() {
-        if m == 0 {
-            return m;
+        // none is lower
+        if low == 0 {
+            return low;
         }
-        m = least(m, break_of(breaks, clause[i]));
+        low = least(low, break_of(breaks, clause[i]));
         i += 1;
     }
-    m
+    low
 }
 
 // 1 where k is m, else 0.

@@ -116,10 +116,10 @@ fn lose_one(
         lower(breaks, v);
         return tables::enter(list, places, number, c);
     }
-    let p = places[at] ^ (v as u16);
-    places[at] = p;
+    let p = (places[at] as usize) ^ v;
+    places[at] = p as u16;
     // it had two or more: two where they are below 3
-    raise_by(breaks, pick(k, 3, p as usize, v), below(k, 3));
+    raise_by(breaks, pick(k, 3, p, v), below(k, 3));
     number
 }
 

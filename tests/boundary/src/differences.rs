@@ -54,6 +54,11 @@ pub fn difference(name: &str, expected: &[u64], found: &[u64]) -> String {
     format!("\n  {name}: {} (and {more} more)", told.join("; "))
 }
 
+/// The first entries of a table are these.
+pub fn begins(table: &[u64], entries: &[u64]) {
+    assert_eq!(table[..entries.len()], *entries);
+}
+
 #[cfg(test)]
 mod tests {
     use super::*;

@@ -3,11 +3,14 @@
 use std::io::{Read, Write};
 use std::process::{Child, ChildStdin, ChildStdout, Command, Stdio};
 
+use oracle::draw::Drawn;
 use oracle::flips::FlipAnswer;
 use oracle::reading::ReadAnswer;
-use oracle::{Counts, Tables};
+use oracle::walk::WalkAnswer;
+use oracle::{Counts, Order, Tables};
 
 use crate::differences::TABLE_NAMES;
+use crate::wire::{entries_of, numbers_of, put_entries, put_numbers, request, NUMBER_WIDTH};
 use crate::NARROW;
 
 /// `tests/host/build` writes it.
@@ -16,6 +19,10 @@ const STARTER: &str = concat!(env!("CARGO_MANIFEST_DIR"), "/../../target/host/ru
 const LEND: u32 = 1;
 const FLIP: u32 = 2;
 const READ: u32 = 3;
+const WALK: u32 = 4;
+const DRAW: u32 = 5;
+const CHOICE: u32 = 6;
+const HEADS: u32 = 7;
 
 /// Bytes of a flip list's entry, and of a text's.
 const TERM_WIDTH: usize = 2;
@@ -32,7 +39,7 @@ pub struct Host {
 /// An answer, and all that was lent as it stands after the call.
 pub struct Called<Answer> {
     pub answer: Answer,
-    /// What was lent beside the tables: a list or a text.
+    /// What was lent beside the tables: a list, a text or nothing.
     pub beside: Vec<u64>,
     pub tables: Tables,
 }
@@ -58,11 +65,7 @@ impl Host {
     /// Lends tables of any lengths for the calls that follow.
     pub fn lend(&mut self, tables: &Tables) -> Result<(), Fault> {
         self.lengths = tables.all().map(Vec::len);
-        let mut request = Vec::new();
-        put_number(&mut request, LEND);
-        for length in self.lengths {
-            put_number(&mut request, length as u32);
-        }
+        let mut request = request(LEND, &self.lengths.map(|length| length as u64));
         for (table, width) in tables.all().into_iter().zip(table_widths()) {
             put_entries(&mut request, table, width);
         }
@@ -71,21 +74,9 @@ impl Host {
 
     /// `ngi_flip` on the tables that are lent.
     pub fn flip(&mut self, list: &[u64], counts: &Counts) -> Result<Called<FlipAnswer>, Fault> {
-        let mut request = Vec::new();
-        put_number(&mut request, FLIP);
-        put_number(&mut request, list.len() as u32);
+        let mut request = request(FLIP, &[list.len() as u64]);
         put_entries(&mut request, list, TERM_WIDTH);
-        for count in [
-            counts.terms,
-            counts.clauses,
-            counts.literals,
-            counts.uncovered,
-        ] {
-            put_number(
-                &mut request,
-                u32::try_from(count).expect("counts have 32 bits"),
-            );
-        }
+        put_numbers(&mut request, &numbers_of(counts));
         self.send(&request)?;
         self.see_guards("list")?;
         Ok(Called {
@@ -97,9 +88,7 @@ impl Host {
 
     /// `ngi_read` into the tables that are lent.
     pub fn read(&mut self, text: &[u8]) -> Result<Called<ReadAnswer>, Fault> {
-        let mut request = Vec::new();
-        put_number(&mut request, READ);
-        put_number(&mut request, text.len() as u32);
+        let mut request = request(READ, &[text.len() as u64]);
         request.extend(text);
         self.send(&request)?;
         self.see_guards("text")?;
@@ -107,6 +96,44 @@ impl Host {
             answer: self.read_answer()?,
             beside: self.entries(text.len(), BYTE_WIDTH)?,
             tables: self.tables()?,
+        })
+    }
+
+    /// `ngi_walk` on the tables that are lent.
+    pub fn walk(&mut self, order: &Order, counts: &Counts) -> Result<Called<WalkAnswer>, Fault> {
+        let numbers = [order.seed, order.flips, order.walks, order.bias];
+        let mut request = request(WALK, &numbers);
+        put_numbers(&mut request, &numbers_of(counts));
+        self.send(&request)?;
+        self.see_guards("nothing")?;
+        Ok(Called {
+            answer: self.walk_answer()?,
+            beside: Vec::new(),
+            tables: self.tables()?,
+        })
+    }
+
+    /// `ngi_draw`.
+    pub fn draw(&mut self, state: u64) -> Result<Drawn, Fault> {
+        self.drawn(DRAW, &[state])
+    }
+
+    /// `ngi_choice`.
+    pub fn choice(&mut self, state: u64, among: u64) -> Result<Drawn, Fault> {
+        self.drawn(CHOICE, &[state, among])
+    }
+
+    /// `ngi_heads`.
+    pub fn heads(&mut self, state: u64, bias: u64) -> Result<Drawn, Fault> {
+        self.drawn(HEADS, &[state, bias])
+    }
+
+    fn drawn(&mut self, opcode: u32, numbers: &[u64]) -> Result<Drawn, Fault> {
+        self.send(&request(opcode, numbers))?;
+        Ok(Drawn {
+            reason: self.number()?,
+            number: self.number()?,
+            state: self.number()?,
         })
     }
 
@@ -139,6 +166,16 @@ impl Host {
         })
     }
 
+    fn walk_answer(&mut self) -> Result<WalkAnswer, Fault> {
+        Ok(WalkAnswer {
+            result: self.number()?,
+            reason: self.number()?,
+            walks: self.number()?,
+            flips: self.number()?,
+            counts: self.counts()?,
+        })
+    }
+
     fn counts(&mut self) -> Result<Counts, Fault> {
         Ok(Counts {
             terms: self.number()?,
@@ -158,7 +195,7 @@ impl Host {
     }
 
     fn number(&mut self) -> Result<u64, Fault> {
-        Ok(self.entries(1, 4)?[0])
+        Ok(self.entries(1, NUMBER_WIDTH)?[0])
     }
 
     fn entries(&mut self, length: usize, width: usize) -> Result<Vec<u64>, Fault> {
@@ -191,41 +228,4 @@ impl Drop for Host {
 /// Bytes of each table's entry.
 fn table_widths() -> [usize; 10] {
     NARROW.entry_bits().map(|bits| bits as usize / 8)
-}
-
-fn put_number(request: &mut Vec<u8>, number: u32) {
-    request.extend(number.to_le_bytes());
-}
-
-/// Each width by itself, so that the compiler knows it: an entry then takes no call.
-fn put_entries(request: &mut Vec<u8>, entries: &[u64], width: usize) {
-    match width {
-        2 => put_wide::<2>(request, entries),
-        4 => put_wide::<4>(request, entries),
-        _ => put_wide::<8>(request, entries),
-    }
-}
-
-fn put_wide<const WIDTH: usize>(request: &mut Vec<u8>, entries: &[u64]) {
-    for entry in entries {
-        request.extend_from_slice(&entry.to_le_bytes()[..WIDTH]);
-    }
-}
-
-fn entries_of(bytes: &[u8], width: usize) -> Vec<u64> {
-    match width {
-        1 => wide_entries::<1>(bytes),
-        2 => wide_entries::<2>(bytes),
-        4 => wide_entries::<4>(bytes),
-        _ => wide_entries::<8>(bytes),
-    }
-}
-
-fn wide_entries<const WIDTH: usize>(bytes: &[u8]) -> Vec<u64> {
-    let entry = |bytes: &[u8]| {
-        let mut entry = [0; 8];
-        entry[..WIDTH].copy_from_slice(bytes);
-        u64::from_le_bytes(entry)
-    };
-    bytes.chunks_exact(WIDTH).map(entry).collect()
 }

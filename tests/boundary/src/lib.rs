@@ -1,31 +1,81 @@
 //! The exported functions as a caller has them, beside the independent program.
 
 pub mod differences;
+pub mod draws;
 pub mod host;
+pub mod lengths;
 pub mod readings;
 pub mod rubbish;
 pub mod sides;
+pub mod tally;
 pub mod texts;
+pub mod walk_kinds;
+pub mod wire;
 
+pub use draws::Draws;
 pub use readings::Readings;
 pub use sides::Sides;
+pub use tally::Tally;
 
 use oracle::generate::limit_texts::text_full_of_all;
-use oracle::generate::{flip_list_of, standing_tables_of, FlipListKind, Random};
-use oracle::{Counts, Limits, Tables};
+use oracle::generate::{flip_list_of, order_of, standing_tables, standing_tables_of};
+use oracle::generate::{FlipListKind, OrderKind, Random};
+use oracle::{Counts, Limits, Order, Tables};
 
 pub const NARROW: Limits = Limits::NARROW;
+
+/// The order of document 01's examples: "Numbers are those above unless said."
+pub const ORDER: Order = Order {
+    seed: 1,
+    flips: 10,
+    walks: 1,
+    bias: 400,
+};
+
+/// An order of seed 1.
+pub fn order_for(flips: u64, walks: u64, bias: u64) -> Order {
+    Order {
+        seed: 1,
+        flips,
+        walks,
+        bias,
+    }
+}
+
+/// The four counts and the ten tables that a call is given.
+pub type Lent = (Counts, Tables);
 
 /// A list of a few known terms.
 pub fn few_flips(terms: u64, random: &mut Random) -> Vec<u64> {
     flip_list_of(FlipListKind::Few, &NARROW, terms, random)
 }
 
+/// An order of a few flips for each walk.
+pub fn few_steps(random: &mut Random) -> Order {
+    order_of(OrderKind::FewFlips, random)
+}
+
+/// Tables that agree.
+pub fn agreeing(random: &mut Random) -> Lent {
+    standing_tables(&NARROW, random)
+}
+
+/// Tables that agree and hold this text, which must be accepted.
+pub fn holding(text: &[u8], random: &mut Random) -> Lent {
+    let standing = standing_tables_of(text, &NARROW, random);
+    standing.expect("the text is accepted")
+}
+
+/// Tables that differ in a true count from what the values say.
+pub fn disagreeing(random: &mut Random) -> Lent {
+    let (counts, mut tables) = agreeing(random);
+    tables.trues[0] ^= 1;
+    (counts, tables)
+}
+
 /// Tables that hold the most terms, clauses and literals at once.
-pub fn full_tables(random: &mut Random) -> (Counts, Tables) {
-    let text = text_full_of_all(&NARROW, random);
-    let standing = standing_tables_of(&text, &NARROW, random);
-    let (counts, tables) = standing.expect("a text at the limits is accepted");
+pub fn full_tables(random: &mut Random) -> Lent {
+    let (counts, tables) = holding(&text_full_of_all(&NARROW, random), random);
     let held = [counts.terms, counts.clauses, counts.literals];
     assert_eq!(
         held.map(|count| count as usize),

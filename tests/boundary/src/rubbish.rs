@@ -1,6 +1,5 @@
 //! Entries that no call may count on.
 
-use oracle::generate::lent::rubbish_entry;
 use oracle::generate::{damage_of, lent_tables_of, DamageKind, LentKind, Random};
 use oracle::{Counts, Tables};
 
@@ -15,11 +14,4 @@ pub fn rubbish(random: &mut Random) -> Tables {
         damage_of(small, &NARROW, &mut Counts::default(), &mut tables, random);
     }
     tables
-}
-
-/// Puts so many entries of rubbish after this table.
-pub fn add_rubbish(tables: &mut Tables, table: usize, more: usize, random: &mut Random) {
-    let bits = NARROW.entry_bits()[table];
-    let rubbish = (0..more).map(|_| rubbish_entry(bits, random));
-    tables.all_mut()[table].extend(rubbish);
 }

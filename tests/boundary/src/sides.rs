@@ -5,11 +5,12 @@ use std::fmt::Debug;
 use oracle::flips::{flip, FlipAnswer};
 use oracle::reading::{read, ReadAnswer};
 use oracle::reasons::{NONE, TABLE_TOO_SHORT};
-use oracle::{Counts, Tables};
+use oracle::walk::{walk_telling, Step, WalkAnswer};
+use oracle::{Counts, Order, Tables};
 
 use crate::differences::{difference, differences};
-use crate::host::{Called, Host};
-use crate::NARROW;
+use crate::host::{Called, Fault, Host};
+use crate::{Lent, NARROW};
 
 /// Bytes of a text that a report shows.
 const SHOWN: usize = 200;
@@ -18,10 +19,12 @@ pub struct Sides {
     host: Host,
     /// What is lent, in words, for the reports.
     case: String,
-    /// Lists and texts given to these tables.
+    /// Calls on these tables.
     calls: usize,
     pub counts: Counts,
     pub tables: Tables,
+    /// The steps of the last walk.
+    pub steps: Vec<Step>,
 }
 
 impl Sides {
@@ -32,11 +35,12 @@ impl Sides {
             calls: 0,
             counts: Counts::default(),
             tables: Tables::default(),
+            steps: Vec::new(),
         }
     }
 
     /// Lends the same to both; counts cross in 32 bits, so only these are kept.
-    pub fn lend(&mut self, case: String, (counts, tables): (Counts, Tables)) {
+    pub fn lend(&mut self, case: String, (counts, tables): Lent) {
         self.case = case;
         self.calls = 0;
         self.counts = low_32_bits(counts);
@@ -47,33 +51,48 @@ impl Sides {
 
     /// Gives a list to both; they must answer the same and leave the same.
     pub fn flip(&mut self, list: &[u64]) -> FlipAnswer {
-        let given = self.next_call(format!("a list of {} flips", list.len()));
-        let flipped = self.host.flip(list, &self.counts);
-        let found = flipped.unwrap_or_else(|fault| panic!("{given}: {fault}"));
+        let called = self.host.flip(list, &self.counts);
         let answer = flip(&NARROW, list, self.counts, &mut self.tables);
-        let report = self.report("list", list, &answer, &found);
-        assert!(report.is_empty(), "{given}:{report}");
+        let given = format!("a list of {} flips", list.len());
+        self.compare(given, list, &answer, called);
         self.counts = answer.counts;
         answer
     }
 
     /// Gives a text to both; they must answer the same and leave the same.
     pub fn read(&mut self, text: &[u8]) -> ReadAnswer {
-        let given = self.next_call(shown(text));
         let called = self.host.read(text);
-        let found = called.unwrap_or_else(|fault| panic!("{given}: {fault}"));
         let answer = read(&NARROW, text, &mut self.tables);
         let bytes: Vec<u64> = text.iter().map(|byte| u64::from(*byte)).collect();
-        let report = self.report("text", &bytes, &answer, &found);
-        assert!(report.is_empty(), "{given}:{report}");
+        self.compare(shown(text), &bytes, &answer, called);
         self.counts = answer.counts;
         answer
     }
 
-    /// What is lent and given, for the reports.
-    fn next_call(&mut self, given: String) -> String {
+    /// Gives an order to both; they must answer the same and leave the same.
+    pub fn walk(&mut self, order: &Order) -> WalkAnswer {
+        let called = self.host.walk(order, &self.counts);
+        self.steps.clear();
+        let mut tell = |step| self.steps.push(step);
+        let answer = walk_telling(&NARROW, order, self.counts, &mut self.tables, &mut tell);
+        self.compare(format!("{order:?}"), &[], &answer, called);
+        self.counts = answer.counts;
+        answer
+    }
+
+    /// Reports what differs between the two, where anything does.
+    fn compare<Answer: Debug + PartialEq>(
+        &mut self,
+        given: String,
+        beside: &[u64],
+        answer: &Answer,
+        called: Result<Called<Answer>, Fault>,
+    ) {
         self.calls += 1;
-        format!("{}, call {}: {given}", self.case, self.calls)
+        let given = format!("{}, call {}: {given}", self.case, self.calls);
+        let found = called.unwrap_or_else(|fault| panic!("{given}: {fault}"));
+        let report = self.report(beside, answer, &found);
+        assert!(report.is_empty(), "{given}:{report}");
     }
 
     /// Gives a list that both must refuse for this reason, with nothing changed.
@@ -81,11 +100,26 @@ impl Sides {
         let before = (self.counts, self.tables.clone());
         let answer = self.flip(list);
         assert_eq!((answer.result, answer.reason), (0, reason), "{}", self.case);
-        assert!(
-            before.0 == self.counts && before.1 == self.tables,
-            "{}",
-            self.case
-        );
+        self.see_unchanged(before);
+    }
+
+    /// Gives an order that both must refuse for this reason, with nothing changed.
+    pub fn refuse_order(&mut self, order: &Order, reason: u64) {
+        let before = (self.counts, self.tables.clone());
+        let expected = WalkAnswer {
+            result: 0,
+            reason,
+            walks: 0,
+            flips: 0,
+            counts: self.counts,
+        };
+        assert_eq!(self.walk(order), expected, "{}", self.case);
+        self.see_unchanged(before);
+    }
+
+    fn see_unchanged(&self, (counts, tables): Lent) {
+        let same = counts == self.counts && tables == self.tables;
+        assert!(same, "{}", self.case);
     }
 
     /// Gives a list that both must apply.
@@ -121,7 +155,6 @@ impl Sides {
     /// What differs, a line each; nothing where all is the same.
     fn report<Answer: Debug + PartialEq>(
         &self,
-        name: &str,
         beside: &[u64],
         answer: &Answer,
         found: &Called<Answer>,
@@ -131,7 +164,7 @@ impl Sides {
             report += &format!("\n  answer: {answer:?} expected, {:?} found", found.answer);
         }
         if beside != found.beside {
-            report += &difference(name, beside, &found.beside);
+            report += &difference("list or text", beside, &found.beside);
         }
         report + &differences(&self.tables, &found.tables)
     }

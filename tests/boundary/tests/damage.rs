@@ -1,12 +1,25 @@
 //! Tables that are damaged: reason 12 with nothing changed, or, where they still agree, what the independent program does.
 
-use std::collections::{BTreeMap, BTreeSet};
+use std::collections::BTreeSet;
 
 use boundary::differences::TABLE_NAMES;
-use boundary::{few_flips, full_tables, Sides, NARROW};
+use boundary::{agreeing, few_flips, full_tables, holding, Lent, Sides, Tally, NARROW, ORDER};
 use oracle::generate::*;
 use oracle::reasons::{NONE, TABLES_DISAGREE, TABLE_TOO_SHORT};
 use oracle::{Counts, Tables};
+
+/// Gives a list and an order to what is lent; both must get the same reason, which is told.
+fn reason_of_both(sides: &mut Sides, list: &[u64]) -> u64 {
+    let reason = sides.flip(list).reason;
+    assert_eq!(sides.walk(&ORDER).reason, reason);
+    reason
+}
+
+/// Gives a list and an order to what is lent; both must be refused, with nothing changed.
+fn refuse_both(sides: &mut Sides, list: &[u64]) {
+    sides.refuse(list, TABLES_DISAGREE);
+    sides.refuse_order(&ORDER, TABLES_DISAGREE);
+}
 
 /// Tables with one entry xored by this difference.
 fn changed(tables: &Tables, table: usize, entry: usize, difference: u64) -> Tables {
@@ -17,10 +30,9 @@ fn changed(tables: &Tables, table: usize, entry: usize, difference: u64) -> Tabl
 
 /// Tables of seven terms, one of them in no clause, where several clauses are uncovered. The first literal of all is false and stands
 /// nowhere else, so that of the other tables none shows whether the first clause has it.
-fn small_file() -> (Counts, Tables) {
+fn small_file() -> Lent {
     let text = b"z a b\n~a b c\n~b ~c\nd\n~d a\n~d ~a\nc ~e\nf ~f\ne a ~c d\na\n~a\ne\n~e\n";
-    let standing = standing_tables_of(text, &NARROW, &mut Random::new(2));
-    let (counts, tables) = standing.expect("the text is accepted");
+    let (counts, tables) = holding(text, &mut Random::new(2));
     assert!(counts.terms == 7 && counts.uncovered >= 3 && tables.values[0] & 1 == 0);
     (counts, tables)
 }
@@ -35,7 +47,7 @@ fn each_entry_in_use_is_judged() {
         for (entry, difference) in (0..used).flat_map(|entry| [1, 2, top].map(|bit| (entry, bit))) {
             let case = format!("{} entry {entry} xor {difference}", TABLE_NAMES[table]);
             sides.lend(case, (counts, changed(&tables, table, entry, difference)));
-            let reason = sides.flip(&[0, 1, 0, 2]).reason;
+            let reason = reason_of_both(&mut sides, &[0, 1, 0, 2]);
             assert!(reason == TABLES_DISAGREE || TABLE_NAMES[table] == "names");
         }
     }
@@ -58,16 +70,15 @@ fn each_table_is_judged_past_those_in_use() {
             let difference = some_difference(NARROW.entry_bits()[table], random);
             let case = format!("{} entry {entry} is {difference}", TABLE_NAMES[table]);
             sides.lend(case, (counts, changed(&tables, table, entry, difference)));
-            let list = few_flips(counts.terms, random);
-            sides.refuse(&list, TABLES_DISAGREE);
+            refuse_both(&mut sides, &few_flips(counts.terms, random));
         }
     }
 }
 
-/// Changes one entry of a table at random, and tells the reason that both give.
+/// Changes one entry of a table at random, and tells the reason that both calls are given.
 fn reason_of_change(
     sides: &mut Sides,
-    standing: &(Counts, Tables),
+    standing: &Lent,
     entry: [usize; 2],
     random: &mut Random,
 ) -> u64 {
@@ -78,8 +89,7 @@ fn reason_of_change(
         case,
         (standing.0, changed(&standing.1, table, entry, difference)),
     );
-    let list = few_flips(standing.0.terms, random);
-    sides.flip(&list).reason
+    reason_of_both(sides, &few_flips(standing.0.terms, random))
 }
 
 #[test]
@@ -88,7 +98,7 @@ fn each_table_of_any_file_is_judged_in_one_entry() {
     let mut refused = BTreeSet::new();
     for seed in 0..40 {
         let random = &mut Random::new(seed);
-        let standing = standing_tables(&NARROW, random);
+        let standing = agreeing(random);
         let used = standing.0.in_use().into_iter().enumerate();
         for (table, used) in used.filter(|(_, used)| *used > 0) {
             let entry = [table, random.below(used)];
@@ -120,20 +130,20 @@ fn each_spare_value_bit_of_the_last_word_is_judged() {
     for bit in counts.terms..32 {
         let case = format!("spare bit {bit}");
         sides.lend(case, (counts, changed(&tables, 1, 0, 1 << bit)));
-        sides.refuse(&[0], TABLES_DISAGREE);
+        refuse_both(&mut sides, &[0]);
     }
 }
 
-/// Lists on tables with this kind of damage; how often each reason is met.
-fn reasons_of(kind: DamageKind, sides: &mut Sides) -> BTreeMap<u64, u64> {
-    let mut met = BTreeMap::new();
+/// Both calls on tables with this kind of damage; how often each reason is met.
+fn reasons_of(kind: DamageKind, sides: &mut Sides) -> Tally<u64> {
+    let mut met = Tally::default();
     for seed in 0..100 {
         let random = &mut Random::new(seed);
-        let (mut counts, mut tables) = standing_tables(&NARROW, random);
+        let (mut counts, mut tables) = agreeing(random);
         let list = few_flips(counts.terms, random);
         damage_of(kind, &NARROW, &mut counts, &mut tables, random);
         sides.lend(format!("{kind:?}, seed {seed}"), (counts, tables));
-        *met.entry(sides.flip(&list).reason).or_insert(0) += 1;
+        met.note(reason_of_both(sides, &list));
     }
     met
 }
@@ -149,7 +159,7 @@ fn each_kind_of_damage_is_judged_as_the_independent_program_judges_it() {
             OneShorter => TABLE_TOO_SHORT,
             _ => TABLES_DISAGREE,
         };
-        assert!(met.contains_key(&expected), "{kind:?} {met:?}");
+        assert!(met.times(expected) > 0, "{kind:?} {met:?}");
     }
 }
 
@@ -193,7 +203,7 @@ fn each_of_the_four_counts_is_judged() {
                 format!("count {number} is {other}"),
                 (counts, tables.clone()),
             );
-            sides.refuse(&[0, 1], TABLES_DISAGREE);
+            refuse_both(&mut sides, &[0, 1]);
         }
     }
 }
@@ -209,11 +219,11 @@ fn all_four_counts_at_the_types_end_or_at_0_are_reason_12() {
             uncovered: count,
         };
         sides.lend(format!("counts {count}"), (counts, small_file().1));
-        sides.refuse(&[0], TABLES_DISAGREE);
+        refuse_both(&mut sides, &[0]);
         sides.lend(
             format!("counts {count}, tables 0"),
             (counts, Tables::zeros(&NARROW)),
         );
-        sides.refuse(&[], TABLES_DISAGREE);
+        refuse_both(&mut sides, &[]);
     }
 }

@@ -1,16 +1,12 @@
 //! Flip lists on tables that agree.
 
-use std::collections::BTreeMap;
-use std::ops::Range;
-use std::thread;
-
-use boundary::{full_tables, Sides, NARROW};
+use boundary::tally::share_out;
+use boundary::{agreeing, full_tables, holding, Sides, Tally, NARROW};
 use oracle::generate::*;
 use oracle::reasons::{LIST_TOO_LONG, NONE, UNKNOWN_TERM};
 
 const FILES: u64 = 2_100;
 const LISTS_ON_EACH: u64 = 10;
-const WORKERS: u64 = 2;
 
 /// Mostly short lists, so that many can be compared.
 const USUAL: [FlipListKind; 8] = [
@@ -35,15 +31,15 @@ fn some_list(terms: u64, random: &mut Random) -> Vec<u64> {
 }
 
 /// Compares lists on the file of each seed, one after the other on the same tables; counts each reason.
-fn compare_files(seeds: Range<u64>) -> BTreeMap<u64, u64> {
+fn compare_files(seeds: &[u64]) -> Tally<u64> {
     let mut sides = Sides::start();
-    let mut met = BTreeMap::new();
+    let mut met = Tally::default();
     for seed in seeds {
-        let random = &mut Random::new(seed);
-        sides.lend(format!("seed {seed}"), standing_tables(&NARROW, random));
+        let random = &mut Random::new(*seed);
+        sides.lend(format!("seed {seed}"), agreeing(random));
         for _ in 0..LISTS_ON_EACH {
             let list = some_list(sides.counts.terms, random);
-            *met.entry(sides.flip(&list).reason).or_insert(0) += 1;
+            met.note(sides.flip(&list).reason);
         }
     }
     met
@@ -51,21 +47,9 @@ fn compare_files(seeds: Range<u64>) -> BTreeMap<u64, u64> {
 
 #[test]
 fn twenty_thousand_random_lists_leave_what_the_independent_program_leaves() {
-    let share = FILES / WORKERS;
-    let workers: Vec<_> = (0..WORKERS)
-        .map(|worker| thread::spawn(move || compare_files(worker * share..(worker + 1) * share)))
-        .collect();
-    let mut met = BTreeMap::new();
-    for worker in workers {
-        for (reason, lists) in worker.join().expect("a worker found a difference") {
-            *met.entry(reason).or_insert(0) += lists;
-        }
-    }
-    assert!(met.values().sum::<u64>() >= 20_000, "{met:?}");
-    assert!(
-        met[&NONE] >= 10_000 && met[&UNKNOWN_TERM] >= 1_000,
-        "{met:?}"
-    );
+    let met = share_out(FILES, compare_files);
+    assert!(met.total() >= 20_000, "{met:?}");
+    met.expect([(NONE, 10_000), (UNKNOWN_TERM, 1_000)]);
 }
 
 /// Lists of mixed kinds, one after the other.
@@ -88,11 +72,7 @@ fn lists_on_files_that_meet_one_limit_leave_what_the_independent_program_leaves(
         for kind in kinds {
             let random = &mut Random::new(seed);
             let text = clause_text_of(kind, &NARROW, random);
-            let standing = standing_tables_of(&text, &NARROW, random);
-            sides.lend(
-                format!("{kind:?}, seed {seed}"),
-                standing.expect("the text is accepted"),
-            );
+            sides.lend(format!("{kind:?}, seed {seed}"), holding(&text, random));
             compare_some_lists(&mut sides, random);
         }
     }
@@ -115,7 +95,7 @@ fn for_long_lists(kind: FlipListKind, check: fn(&mut Sides, &[u64])) {
         let random = &mut Random::new(seed);
         let standing = match seed {
             0 => full_tables(random),
-            _ => standing_tables(&NARROW, random),
+            _ => agreeing(random),
         };
         sides.lend(format!("{kind:?}, seed {seed}"), standing);
         let list = flip_list_of(kind, &NARROW, sides.counts.terms, random);

@@ -1,5 +1,6 @@
 //! The examples of document 01 and its points that are easy to get wrong, one by one.
 
+use boundary::differences::begins;
 use boundary::texts::{last_line, then};
 use boundary::{Readings, NARROW};
 use oracle::generate::limit_texts::*;
@@ -118,11 +119,6 @@ fn point_3_the_byte_after_a_literal_is_judged_before_it_drops_or_is_skipped() {
             ("~ \0 \nb\n", counts(1, 1, 1, 1)),
         ],
     );
-}
-
-/// The first entries of a table are these.
-fn begins(table: &[u64], entries: &[u64]) {
-    assert_eq!(table[..entries.len()], *entries);
 }
 
 #[test]

@@ -1,12 +1,12 @@
 //! Tables too short and too long for a reading, and what a reading leaves to the calls after it.
 
-use boundary::differences::TABLE_NAMES;
-use boundary::rubbish::{add_rubbish, rubbish};
-use boundary::{few_flips, Sides, NARROW};
+use boundary::lengths::{for_each_longer, for_each_shorter};
+use boundary::rubbish::rubbish;
+use boundary::{few_flips, few_steps, Lent, Sides, NARROW, ORDER};
 use oracle::generate::limit_texts::text_full_of_all;
 use oracle::generate::*;
 use oracle::reasons::*;
-use oracle::{Counts, Tables};
+use oracle::{Counts, Order, Tables};
 
 /// An accepted text, and one for each reason that a text can give.
 fn a_text_for_each_reason() -> Vec<(u64, Vec<u8>)> {
@@ -29,73 +29,31 @@ fn lend(sides: &mut Sides, case: String, tables: Tables) {
     sides.lend(case, (Counts::default(), tables));
 }
 
-/// Reads a text for each reason into such tables; what lies beyond them is compared each time.
-fn read_each(sides: &mut Sides, case: &str, tables: &Tables) {
-    for (reason, text) in a_text_for_each_reason() {
-        lend(sides, case.into(), tables.clone());
-        assert_eq!(sides.read(&text).reason, reason);
-    }
+/// Tables of full size with any entries.
+fn any_tables(random: &mut Random) -> Lent {
+    let tables = lent_tables_of(LentKind::Rubbish, &NARROW, random);
+    (Counts::default(), tables)
 }
 
 #[test]
-fn each_table_one_entry_too_short_is_reason_1_whatever_the_text() {
-    let mut sides = Sides::start();
-    for (table, name) in TABLE_NAMES.iter().enumerate() {
-        let mut tables = rubbish(&mut Random::new(table as u64));
-        tables.all_mut()[table].truncate(NARROW.full_sizes()[table] - 1);
-        lend(&mut sides, format!("{name} one too short"), tables);
-        for (_, text) in a_text_for_each_reason() {
-            sides.refuse_text(&text, TABLE_TOO_SHORT, 0);
+fn a_table_too_short_is_reason_1_whatever_the_text() {
+    let texts = a_text_for_each_reason();
+    for_each_shorter(any_tables, |sides, _| {
+        for (_, text) in &texts {
+            sides.refuse_text(text, TABLE_TOO_SHORT, 0);
         }
-    }
+    });
 }
 
 #[test]
-fn tables_of_no_entry_or_half_their_size_are_reason_1() {
-    let mut sides = Sides::start();
-    for (table, name) in TABLE_NAMES.iter().enumerate() {
-        for length in [0, 1, NARROW.full_sizes()[table] / 2] {
-            let mut tables = rubbish(&mut Random::new(table as u64));
-            tables.all_mut()[table].truncate(length);
-            lend(&mut sides, format!("{name} of length {length}"), tables);
-            sides.refuse_text(b"a\n", TABLE_TOO_SHORT, 0);
-            sides.refuse_text(b"", TABLE_TOO_SHORT, 0);
+fn rubbish_beyond_the_tables_stays() {
+    let texts = a_text_for_each_reason();
+    for_each_longer(any_tables, |sides, random| {
+        for (reason, text) in &texts {
+            assert_eq!(sides.read(text).reason, *reason);
         }
-    }
-    lend(
-        &mut sides,
-        "no entry in any table".into(),
-        Tables::default(),
-    );
-    sides.refuse_text(b"a\n", TABLE_TOO_SHORT, 0);
-}
-
-#[test]
-fn rubbish_beyond_each_table_alone_stays() {
-    let mut sides = Sides::start();
-    for (table, name) in TABLE_NAMES.iter().enumerate() {
-        for more in [1, 1_000] {
-            let random = &mut Random::new(table as u64);
-            let mut tables = lent_tables_of(LentKind::Rubbish, &NARROW, random);
-            add_rubbish(&mut tables, table, more, random);
-            read_each(&mut sides, &format!("{name} longer by {more}"), &tables);
-        }
-    }
-}
-
-#[test]
-fn rubbish_beyond_all_ten_tables_stays() {
-    let mut sides = Sides::start();
-    for seed in 0..10 {
-        let random = &mut Random::new(seed);
-        let mut tables = lent_tables_of(LentKind::Rubbish, &NARROW, random);
-        for table in 0..10 {
-            let more = random.between(1, 9);
-            add_rubbish(&mut tables, table, more, random);
-        }
-        read_each(&mut sides, &format!("seed {seed}"), &tables);
         sides.accept(&text_full_of_all(&NARROW, random));
-    }
+    });
 }
 
 /// Accepted texts with what they are: small ones of each kind, and ones that meet a limit.
@@ -144,6 +102,16 @@ fn what_a_reading_leaves_agrees_and_can_be_flipped() {
 }
 
 #[test]
+fn what_a_reading_leaves_agrees_and_can_be_walked_on() {
+    after_each_reading(|sides, _, random| {
+        assert_eq!(sides.walk(&few_steps(random)).reason, NONE);
+        sides.apply(&few_flips(sides.counts.terms, random));
+        assert_eq!(sides.walk(&few_steps(random)).reason, NONE);
+        assert_eq!(sides.walk(&few_steps(random)).reason, NONE);
+    });
+}
+
+#[test]
 fn a_reading_into_what_the_same_reading_left_leaves_the_same() {
     after_each_reading(|sides, text, random| {
         let left = (sides.counts, sides.tables.clone());
@@ -179,5 +147,7 @@ fn what_a_refused_reading_leaves_does_not_agree() {
         assert_eq!(sides.read(&text).reason, reason);
         sides.refuse(&[], TABLES_DISAGREE);
         sides.refuse(&[0], TABLES_DISAGREE);
+        sides.refuse_order(&ORDER, TABLES_DISAGREE);
+        sides.refuse_order(&Order { seed: 0, ..ORDER }, OUT_OF_RANGE);
     }
 }

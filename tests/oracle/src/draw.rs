@@ -44,6 +44,11 @@ pub fn drawn_from(state: u32) -> u32 {
     y
 }
 
+/// All draws from this state, one after the other.
+pub fn draws_from(state: u32) -> impl Iterator<Item = u32> {
+    std::iter::successors(Some(drawn_from(state)), |state| Some(drawn_from(*state)))
+}
+
 /// A draw asked for alone.
 pub fn draw(state: u64) -> Drawn {
     drawn_alone(state, true, |draw| draw)

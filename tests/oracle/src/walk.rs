@@ -20,8 +20,31 @@ pub struct WalkAnswer {
     pub counts: Counts,
 }
 
+/// What one flip was chosen among.
+#[derive(Clone, Copy, Debug, PartialEq, Eq)]
+pub struct Step {
+    pub uncovered: usize,
+    /// The literals of the clause, the least break count among them, and how many have it.
+    pub literals: usize,
+    pub least: usize,
+    pub at_least: usize,
+    /// Whether the draw was heads, where one was made.
+    pub heads: Option<bool>,
+}
+
 /// Walks from agreeing tables and leaves its end in them.
 pub fn walk(limits: &Limits, order: &Order, counts: Counts, tables: &mut Tables) -> WalkAnswer {
+    walk_telling(limits, order, counts, tables, &mut |_| {})
+}
+
+/// The same; each step is told, so that a test can count what it meets.
+pub fn walk_telling(
+    limits: &Limits,
+    order: &Order,
+    counts: Counts,
+    tables: &mut Tables,
+    tell: &mut dyn FnMut(Step),
+) -> WalkAnswer {
     if let Some(reason) = reason_against(limits, order, &counts, tables) {
         return WalkAnswer {
             result: 0,
@@ -31,7 +54,7 @@ pub fn walk(limits: &Limits, order: &Order, counts: Counts, tables: &mut Tables)
             counts,
         };
     }
-    let mut walker = Walker::new(order, State::standing(&counts, tables));
+    let mut walker = Walker::new(order, State::standing(&counts, tables), tell);
     let found = walker.walk_until_found_or_spent();
     tables.write_over(limits, &walker.state.lay_out(limits));
     WalkAnswer {
@@ -63,10 +86,11 @@ struct Walker<'a> {
     generator: Generator,
     walks: u64,
     flips: u64,
+    tell: &'a mut dyn FnMut(Step),
 }
 
 impl<'a> Walker<'a> {
-    fn new(order: &'a Order, state: State) -> Walker<'a> {
+    fn new(order: &'a Order, state: State, tell: &'a mut dyn FnMut(Step)) -> Walker<'a> {
         let occurrences = state.occurrences();
         let generator = Generator {
             state: order.seed as u32,
@@ -78,6 +102,7 @@ impl<'a> Walker<'a> {
             generator,
             walks: 0,
             flips: 0,
+            tell,
         }
     }
 
@@ -130,17 +155,25 @@ impl<'a> Walker<'a> {
     fn choose_term(&mut self, clause: usize) -> usize {
         let literals = self.state.clauses[clause].clone();
         let least = self.least_break_count(&literals);
-        if least > 0 && self.generator.heads(self.order.bias) {
-            return term_of(literals[self.generator.choice(literals.len())]);
-        }
-        let at_least: Vec<usize> = literals
-            .into_iter()
-            .filter(|literal| self.break_count(*literal) == least)
-            .collect();
+        let mut at_least = literals.clone();
+        at_least.retain(|literal| self.break_count(*literal) == least);
+        let heads = (least > 0).then(|| self.generator.heads(self.order.bias));
+        (self.tell)(Step {
+            uncovered: self.state.uncovered.len(),
+            literals: literals.len(),
+            least,
+            at_least: at_least.len(),
+            heads,
+        });
         match at_least[..] {
+            _ if heads == Some(true) => self.choose_among(&literals),
             [only] => term_of(only),
-            _ => term_of(at_least[self.generator.choice(at_least.len())]),
+            _ => self.choose_among(&at_least),
         }
+    }
+
+    fn choose_among(&mut self, literals: &[usize]) -> usize {
+        term_of(literals[self.generator.choice(literals.len())])
     }
 
     fn least_break_count(&self, literals: &[usize]) -> usize {

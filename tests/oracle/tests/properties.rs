@@ -14,7 +14,7 @@ use oracle::reader::{Reader, Told};
 use oracle::reading::read;
 use oracle::sheet::read_sheet;
 use oracle::state::State;
-use oracle::walk::walk;
+use oracle::walk::{walk, walk_telling};
 use oracle::{run, run_on, Counts, Limits, Tables};
 
 /// Cases under the limits of document 01, and under limits that small texts meet.
@@ -149,6 +149,25 @@ fn a_walk_that_finds_covers_every_clause_and_one_that_gives_up_is_spent() {
             );
         }
     });
+}
+
+#[test]
+fn the_steps_told_of_a_walk_are_its_flips() {
+    let mut tossed = [0; 3];
+    for seed in 0..1_000 {
+        let mut case = walk_case(&SMALL, &mut Random::new(seed));
+        let mut steps = Vec::new();
+        let tell = &mut |step| steps.push(step);
+        let answer = walk_telling(&SMALL, &case.order, case.counts, &mut case.tables, tell);
+        assert_eq!(steps.len() as u64, answer.flips);
+        for step in steps {
+            assert!((1..=case.counts.clauses as usize).contains(&step.uncovered));
+            assert!((1..=step.literals).contains(&step.at_least));
+            assert_eq!(step.heads.is_some(), step.least > 0);
+            tossed[step.heads.map_or(0, |heads| 1 + usize::from(heads))] += 1;
+        }
+    }
+    assert!(tossed.iter().all(|steps| *steps > 500), "{tossed:?}");
 }
 
 #[test]

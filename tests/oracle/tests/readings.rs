@@ -4,7 +4,7 @@ mod common;
 
 use common::*;
 use oracle::agree::agree;
-use oracle::draw::{choice, draw, drawn_from, heads};
+use oracle::draw::{choice, draw, draws_from, heads};
 use oracle::flips::flip;
 use oracle::reader::{pack, Reader, Told};
 use oracle::sheet::read_sheet;
@@ -265,9 +265,8 @@ fn draws_of_the_first_flip(clauses: &str, bias: u64) -> usize {
         },
     );
     assert_eq!((answer.walks, tables.values[1]), (2, 0));
-    let draws = std::iter::successors(Some(drawn_from(1)), |state| Some(drawn_from(*state)));
     let begins = |draw: u32| u64::from(draw) >> 5 == tables.values[0] >> 5;
-    let second_start = draws
+    let second_start = draws_from(1)
         .take(20)
         .position(begins)
         .expect("a draw began the walk");

@@ -8,10 +8,10 @@ use Rattle.choosing.proofs.least_break.Statement.{statement}
 use Rattle.choosing.proofs.least_break.Tie as tie
 
 abbrev Inv-loop : tie.InvT-loop
-Inv-loop breaks clause m₀ i₀ m i = Lessening (breakIn breaks) clause m i
+Inv-loop breaks clause low₀ i₀ low i = Lessening (breakIn breaks) clause low i
 
 abbrev μ-loop : tie.MeasureT-loop
-μ-loop breaks clause m₀ i₀ m i = length clause - i
+μ-loop breaks clause low₀ i₀ low i = length clause - i
 
 pub least-break-spec : {M : Type 1} → statement M
 least-break-spec =

@@ -40,5 +40,6 @@ loop-again c =
 pub flip-all-spec : {M : Type 1} → statement M
 flip-all-spec =
     tie.close
-    (tie.spec Inv-loop μ-loop loop-holds (λ c. search needs) (λ c. search needs) (λ c. fits-16-64 (c .shared-slice-known4 .given _)) flip-term-requires add-i
-    (λ c. search needs) loop-again (λ c. search needs) (λ c. search needs) (λ c. search needs) (λ c. search needs) (λ c. search needs) (λ c. search ended))
+    (tie.spec Inv-loop μ-loop loop-holds (λ c. search needs) (λ c. search needs) (λ c. fits-16-64 (c .shared-slice-known4 .given _)) flip-term-requires
+    add-i (λ c. search needs) loop-again (λ c. search needs) (λ c. search needs) (λ c. search needs) (λ c. search needs) (λ c. search needs)
+    (λ c. search ended))

@@ -1,0 +1,103 @@
+//! Orders on files of every kind, walk after walk on the same tables: found or given up, all tables and counts are compared.
+
+use boundary::tally::share_out;
+use boundary::texts::{first_names, then};
+use boundary::walk_kinds::{walk_and_note, Kinds};
+use boundary::{agreeing, holding, Lent, Sides};
+use oracle::generate::lines::{random_lines, write};
+use oracle::generate::*;
+
+const FILES: u64 = 2_000;
+const ORDERS_ON_EACH: u64 = 4;
+
+/// What an order, the end of a walk and a step can be.
+const ORDERS: [&str; 16] = [
+    "the first seed",
+    "the last seed",
+    "another seed",
+    "no flip allowed",
+    "one flip allowed",
+    "two flips allowed",
+    "few flips allowed",
+    "many flips allowed",
+    "one walk allowed",
+    "two walks allowed",
+    "three walks allowed",
+    "four walks allowed",
+    "five walks allowed, or more",
+    "bias 0",
+    "bias 400",
+    "bias 1,000",
+];
+const ENDS: [&str; 8] = [
+    "gave up after one walk",
+    "gave up after several walks",
+    "found in the first walk",
+    "found in a later walk",
+    "found with no flip allowed",
+    "found before a flip",
+    "found by the last flip allowed",
+    "found by an earlier flip",
+];
+const STEPS: [&str; 7] = [
+    "one uncovered clause",
+    "heads in a clause of one",
+    "heads in a longer clause",
+    "tails and one at the least",
+    "tails and several at the least",
+    "one that breaks nothing",
+    "several that break nothing",
+];
+
+/// Walks on the file of each seed; notes what the walks were.
+fn compare_files(seeds: &[u64]) -> Kinds {
+    let mut sides = Sides::start();
+    let mut met = Kinds::default();
+    for seed in seeds {
+        let random = &mut Random::new(*seed);
+        sides.lend(format!("seed {seed}"), agreeing(random));
+        for _ in 0..ORDERS_ON_EACH {
+            walk_and_note(&mut sides, &order_in_range(random), &mut met);
+        }
+    }
+    met
+}
+
+#[test]
+fn eight_thousand_random_walks_end_as_the_independent_program_ends_them() {
+    let met = share_out(FILES, compare_files);
+    met.expect([("walk", 8_000), ("a term in no clause", 1_000)]);
+    met.expect(ORDERS.map(|kind| (kind, 700)));
+    met.expect(ENDS.map(|kind| (kind, 100)));
+    met.expect(STEPS.map(|kind| (kind, 7_000)));
+}
+
+/// A file of so many terms, all of them known from a first line that is dropped, so that some may stand in no clause.
+fn file_of(terms: usize, random: &mut Random) -> Lent {
+    let names = first_names(terms);
+    let known = [names.join(&b' '), b" ~\n!\n".to_vec()].concat();
+    let clauses = random.between(terms.div_ceil(2), (4 * terms).min(3_000));
+    let lines = random_lines(&names, clauses, [2, 3], random);
+    holding(&then(&known, &write(&lines)), random)
+}
+
+/// Where the terms fill their last value word, or do not, or leave it.
+#[test]
+fn walks_over_1_to_65_terms_and_2_048_end_as_the_independent_program_ends_them() {
+    let mut sides = Sides::start();
+    for terms in [1, 2, 31, 32, 33, 63, 64, 65, 2_047, 2_048] {
+        let mut met = Kinds::default();
+        let files = if terms < 100 { 25 } else { 5 };
+        for seed in 0..files {
+            let random = &mut Random::new(seed);
+            let case = format!("{terms} terms, seed {seed}");
+            sides.lend(case, file_of(terms, random));
+            assert_eq!(sides.counts.terms, terms as u64);
+            for _ in 0..ORDERS_ON_EACH {
+                walk_and_note(&mut sides, &order_in_range(random), &mut met);
+            }
+        }
+        let found = met.times("found in the first walk") + met.times("found in a later walk");
+        assert!(found > 0 && found < met.times("walk"), "{terms} {met:?}");
+    }
+}
