@@ -10,15 +10,11 @@ use lib.ListN.{length, getD, take, drop, set, drop-of-length-le}
 use lib.Seq.{drop-cons, append-snoc, take-set-le, take-suc-set}
 use lib.Dec.{eqb}
 use Rattle.written.specs.Lists.{those}
-use Rattle.laws.proofs.Basics.{by-cases, one-most}
+use Rattle.laws.proofs.Basics.{by-cases}
 use Rattle.machine.specs.Tallies.{hitOf}
+use Rattle.machine.proofs.Ones.{hit-low}
 use Rattle.choosing.specs.Choosing.{leastBy, tiesBy, CanDraw}
 use Rattle.choosing.proofs.LeastBreaks.{ties-some}
-
--- a hit counts at most 1
-pub hit-most : (b m : ℕ) {n : ℕ} → n ≡ hitOf b m → n ≤ 1
-unfolding hitOf
-hit-most b m e = rw e (one-most (eqb b m))
 
 module _ (h : ℕ → ℕ) (m : ℕ) (ls : List ℕ) where
   -- i literals were looked at, and the first k entries are those of them at m: with those of the rest they are all
@@ -44,7 +40,7 @@ module _ (h : ℕ → ℕ) (m : ℕ) (ls : List ℕ) where
   pub collect-more : (ties : List ℕ) (k i b n : ℕ) → Collecting ties k i → i < length ls → k < length ties → b ≡ h (getD ls i 0) → n ≡ hitOf b m
       → Collecting (set ties k (getD ls i 0)) (k + n) (i + 1)
   collect-more ties k i b n s l r e f =
-      record { few = omega (arith, s .few, hit-most b m f); upto = omega arith; rest = rw (f, e) (more ties k i l r (s .rest)) }
+      record { few = omega (arith, s .few, hit-low b m f); upto = omega arith; rest = rw (f, e) (more ties k i l r (s .rest)) }
 
   pub collect-done : (ties : List ℕ) (k i : ℕ) → Collecting ties k i → length ls ≤ i → take k ties ≡ tiesBy h m ls
   unfolding tiesBy

@@ -5,7 +5,6 @@ ghost use Prim.Native.Nat.{_/_, _≤_, _<_, min};
 ghost use lib.ListN.{length, take};
 ghost use Rattle.written.specs.Drawing.{chosenFrom};
 ghost use Rattle.written.specs.Walk.{oneOf};
-ghost use Rattle.machine.specs.Tallies.{hitOf};
 ghost use Rattle.choosing.specs.Choosing.{pick, breakIn, leastBy, tiesBy, literalBy, CanDraw, HaveBreaks, CanPick};
 use draw::Generator;
 use written::Order;
@@ -79,16 +78,6 @@ fn least_break(breaks: &[u16], clause: &[u16]) -> u16
     low
 }
 
-// 1 where k is m, else 0.
-fn hit(k: u16, m: u16) -> usize
-    ensures { λ r. ⌜ r ≡ hitOf k m ⌝ }
-{
-    if k == m {
-        return 1;
-    }
-    0
-}
-
 // The literals of a clause whose break count is m, in reading order, collected; how many. Each is written, and counted if it is one: no jump is made on it.
 fn collect(breaks: &[u16], clause: &[u16], m: u16, ties: &mut [u16]) -> usize
     requires { ⌜ HaveBreaks (now breaks) (now clause) × (length (now clause) ≤ length (now ties)) ⌝ }
@@ -99,7 +88,7 @@ fn collect(breaks: &[u16], clause: &[u16], m: u16, ties: &mut [u16]) -> usize
     while i < clause.len() {
         let l = clause[i];
         ties[k] = l;
-        k = k + hit(break_of(breaks, l), m);
+        k = k + tables::one_for(break_of(breaks, l), m);
         i += 1;
     }
     k

@@ -11,7 +11,6 @@ ghost use Rattle.written.specs.Lists.{all, below, differ, steps};
 ghost use Rattle.written.specs.Limits.{narrow};
 ghost use Rattle.written.specs.Tables.{lent, fullSizes, areFull};
 ghost use Rattle.written.specs.Agreement.{partOf, isName, countsFit, agree};
-ghost use Rattle.machine.specs.Tallies.{hitOf};
 ghost use Rattle.machine.specs.Moving.{CanPart, downOf};
 ghost use Rattle.machine.specs.Judging.{clausesIn, valuesIn, startsRight, literalsRight, turnedRight, truesRight, restRight, spareRight, fileRight, countsRight, clauseRests, countRests, passes};
 ghost use Rattle.machine.specs.Marks.{isFresh, markTerm, CanMark};
@@ -439,16 +438,6 @@ fn trues_agree(n: Counts, values: &[u32], starts: &[u16], literals: &[u16], true
     true
 }
 
-// 1 for a count of m, else 0.
-fn one_for(count: u16, m: u16) -> usize
-    ensures { λ r. ⌜ r ≡ hitOf count m ⌝ }
-{
-    if count == m {
-        return 1;
-    }
-    0
-}
-
 // How many counts are 0.
 fn zero_count(counts: &[u16]) -> usize
     ensures { λ r. ⌜ r ≡ countOf 0 (now (counts .entry)) ⌝ }
@@ -456,7 +445,7 @@ fn zero_count(counts: &[u16]) -> usize
     let mut k: usize = 0;
     let mut i = 0;
     while i < counts.len() {
-        k = k + one_for(counts[i], 0);
+        k = k + tables::one_for(counts[i], 0);
         i += 1;
     }
     k
@@ -479,7 +468,7 @@ fn ones_in(trues: &[u16], run: &[u16]) -> usize
     let mut k: usize = 0;
     let mut i = 0;
     while i < run.len() {
-        k = k + one_for(trues[run[i] as usize], 1);
+        k = k + tables::one_for(trues[run[i] as usize], 1);
         i += 1;
     }
     k

@@ -11,7 +11,7 @@ ghost use Rattle.machine.specs.Filling.{roundsIn, tally, CanTally, summed, CanS
 ghost use Rattle.machine.specs.Literals.{valueIn, termIf, xorTrue};
 ghost use Rattle.machine.specs.Moving.{view, CanPart};
 ghost use Rattle.machine.specs.Passes.{rewritten, zeroed, walkPlace, restPlace, CanOpen, CanClose, countOne, CanCount, blank, counted, CanCountAll, CanRecount, upTo};
-ghost use Rattle.machine.specs.Tallies.{raised, CanRaise, CanSteps, tallies};
+ghost use Rattle.machine.specs.Tallies.{raised, hitOf, CanRaise, CanSteps, tallies};
 ghost use Rattle.machine.specs.Uncovered.{uncovered, enters, CanEnter};
 use written::Counts;
 
@@ -58,6 +58,16 @@ fn xor_true(words: &[u32], clause: &[u16]) -> u16
         i += 1;
     }
     x
+}
+
+// 1 for a count of m, else 0: no jump need be made on it.
+pub fn one_for(count: u16, m: u16) -> usize
+    ensures { λ r. ⌜ r ≡ hitOf count m ⌝ }
+{
+    if count == m {
+        return 1;
+    }
+    0
 }
 
 // Part k of the items, by the starts.

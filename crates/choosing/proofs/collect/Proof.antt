@@ -4,9 +4,10 @@ use Prim.Native.Nat.{_-_}
 use native.Mathlib.Omega.{arith}
 use lib.ListN.{length, length-set}
 use borrow.Author.Needs.{needs}
+use Rattle.machine.proofs.Ones.{hit-low}
 use Rattle.choosing.specs.Choosing.{breakIn}
 use Rattle.choosing.proofs.LeastBreaks.{has-break}
-use Rattle.choosing.proofs.Ties.{hit-most, Collecting, collect-begun, collect-more, collect-done}
+use Rattle.choosing.proofs.Ties.{Collecting, collect-begun, collect-more, collect-done}
 use Rattle.choosing.proofs.collect.Statement.{statement}
 use Rattle.choosing.proofs.collect.Tie as tie
 
@@ -17,13 +18,13 @@ abbrev μ-loop : tie.MeasureT-loop
 μ-loop breaks clause m ties₀ k₀ i₀ ties k i = length clause - i
 
 add-k : tie.Need-add-k Inv-loop μ-loop
-add-k c = omega (arith, hit-most _ _ (c .hit .ensures))
+add-k c = omega (arith, hit-low _ _ (c .one-for .ensures))
 
 loop-again : tie.Need-loop-again Inv-loop μ-loop
 loop-again c =
     let inv = c .before .before .before .before .loop .inv in
     let test = c .before .before .before .loop-test .taken in
-    (collect-more _ _ _ _ _ _ _ _ (inv .0) test (omega arith) (c .before .break-of .ensures) (c .hit .ensures), simp length-set (inv .1))
+    (collect-more _ _ _ _ _ _ _ _ (inv .0) test (omega arith) (c .before .break-of .ensures) (c .one-for .ensures), simp length-set (inv .1))
 
 pub collect-spec : {M : Type 1} → statement M
 collect-spec =

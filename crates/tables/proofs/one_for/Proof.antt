@@ -1,7 +1,8 @@
+-- `tables::one_for` meets its contract: each way out has the test that leads there. Assumes nothing.
 use borrow.Author.Tests.{eq-eqb, ne-eqb}
 use Rattle.machine.specs.Tallies.{hitOf}
-use Rattle.judging.proofs.one_for.Statement.{statement}
-use Rattle.judging.proofs.one_for.Tie as tie
+use Rattle.tables.proofs.one_for.Statement.{statement}
+use Rattle.tables.proofs.one_for.Tie as tie
 
 returns : tie.Need-returns
 unfolding hitOf
