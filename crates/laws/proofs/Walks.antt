@@ -4,7 +4,7 @@ use mathlib.Core.Path.{_≡_, refl, sym, _∙_}
 use mathlib.Core.Bool.{true, false, false≢true, true≢false}
 use mathlib.Core.List.{List, [], _∷_}
 use native.Mathlib.Omega.{arith}
-use native.Mathlib.Nat.{mul-comm}
+use native.Mathlib.Nat.{le-refl, mul-comm, mul-le-mul}
 use lib.ListN.{length}
 use borrow.Author.Tests.{eqb-true}
 use Rattle.written.specs.declared.Order.{Order}
@@ -109,24 +109,9 @@ pub gave-up-misses : (o : Order) (f : File) → 0 < o .walks → walkOver o f .f
 unfolding walkOver
 gave-up-misses o f h = missed o (o .walks) 0 (begun o f) (λ z. absurd (omega arith))
 
--- and at most that many times the flips of a walk are made
 start-flips : (m : Moment) → start m .flips ≡ m .flips
 unfolding start
 start-flips m = refl
-
-pub flips-bound : (o : Order) (k n : ℕ) (m : Moment) → walksFrom o k n m .last .flips ≤ k * o .flips + m .flips
-unfolding walksFrom
-flips-bound o zero n m = omega arith
-flips-bound o (suc k) n m =
-    let e = onwards o (o .flips) (start m) in
-    let one = onwards-flips o (o .flips) (start m) in
-    let same = start-flips m in
-    found-or (λ e. e .last .flips ≤ suc k * o .flips + m .flips) (suc n) e (λ e. walksFrom o k (suc n) e) (λ q. omega arith)
-    (λ q. let h = flips-bound o k (suc n) e in omega arith)
-
-pub flips-most : (o : Order) (f : File) → walkOver o f .last .flips ≤ o .flips * o .walks
-unfolding walkOver
-flips-most o f = rw (mul-comm (o .flips) (o .walks)) (let h = flips-bound o (o .walks) 0 (begun o f) in omega arith)
 
 -- of the walks begun, each makes at most its flips
 flips-begun : (o : Order) (k n : ℕ) (m : Moment) → walksFrom o k n m .last .flips + n * o .flips ≤ m .flips + walksFrom o k n m .walks * o .flips
@@ -142,6 +127,12 @@ flips-begun o (suc k) n m =
 pub flips-few : (o : Order) (f : File) → walkOver o f .last .flips ≤ walkOver o f .walks * o .flips
 unfolding walkOver
 flips-few o f = omega (arith, flips-begun o (o .walks) 0 (begun o f))
+
+-- so at most the flips of all the walks that are asked for
+pub flips-most : (o : Order) (f : File) → walkOver o f .last .flips ≤ o .flips * o .walks
+flips-most o f =
+    let asked : walkOver o f .walks * o .flips ≤ o .walks * o .flips = mul-le-mul (walks-most o f) (le-refl (o .flips)) in
+    rw (mul-comm (o .flips) (o .walks)) (omega (arith, flips-few o f, asked))
 
 -- and all of them if the walks are given up
 flips-all : (o : Order) (k n : ℕ) (m : Moment) → walksFrom o k n m .found ≡ false → walksFrom o k n m .last .flips ≡ k * o .flips + m .flips
