@@ -2,7 +2,7 @@
 // A function that another crate of the library calls may ask something of its tables, by one record, which its caller proves; none is exported.
 ghost use mathlib.Core.Path.{_≡_};
 ghost use mathlib.Core.List.{flatten};
-ghost use Prim.Native.Nat.{_<_, _≤_, min};
+ghost use Prim.Native.Nat.{_<_, min};
 ghost use lib.ListN.{length, getD, set};
 ghost use Rattle.written.specs.Agreement.{partOf};
 ghost use Rattle.written.specs.Lists.{total, steps};
