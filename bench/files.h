@@ -1,4 +1,4 @@
-/* Files for flips and walks, made in tables that hold only 0. Random numbers come from a fixed seed, so a file is the same in each run. */
+/* Files for flips, walks and programs, made in tables that hold only 0. Random numbers come from a fixed seed, so a file is the same in each run. */
 #ifndef FILES_H
 #define FILES_H
 
@@ -149,11 +149,22 @@ static inline void make_placement(struct tables *t, uint32_t terms, uint32_t cla
     }
     while (t->clauses < clauses) {
         uint32_t one = random_below(orphans), other = random_below(orphans);
-        if (one != other)
-            keep_apart(t, first[one] + random_below(first[one + 1] - first[one]),
-                       first[other] + random_below(first[other + 1] - first[other]));
+        if (one != other) {
+            uint32_t term = first[one] + random_below(first[one + 1] - first[one]);
+            keep_apart(t, term, first[other] + random_below(first[other + 1] - first[other]));
+        }
     }
     finish_file(t);
+}
+
+/* KIND is 3-SAT, for clauses of three random literals, or 2..MOST, for orphans with that many parents to choose from. */
+static inline void make_file(struct tables *t, const char *kind, uint32_t terms, uint32_t clauses)
+{
+    memset(t, 0, sizeof *t);
+    if (strcmp(kind, "3-SAT") == 0)
+        make_three_sat(t, terms, clauses);
+    else
+        make_placement(t, terms, clauses, number(kind + sizeof "2.." - 1));
 }
 
 #endif

@@ -14,7 +14,7 @@
 #include "files.h"
 #include "plain.h"
 
-enum { LISTS_CHECKED = 8, ROUNDS = 5, LISTS_TIMED = 4, EMPTY_LISTS_TIMED = 64, LONGEST_RUN = 4096 };
+enum { LISTS_CHECKED = 8, LISTS_TIMED = 4, EMPTY_LISTS_TIMED = 64, LONGEST_RUN = 4096 };
 
 typedef __typeof__(ngi_flip) flip_function;
 
@@ -56,30 +56,19 @@ static int check(void)
     return 0;
 }
 
-/* Seconds for one list, the least of the rounds so far. */
-static void time_lists(flip_function *flip, struct tables *t, size_t flips, int lists, double *least)
+static void apply_by(int side, uint32_t flips)
 {
-    double start = seconds();
-    for (int done = 0; done < lists; done++)
-        apply(flip, t, flips);
-    keep_least(least, (seconds() - start) / lists);
+    if (side == NGI)
+        apply(ngi_flip, &one, flips);
+    else
+        apply(plain_flip, &other, flips);
 }
 
-/* The two take turns, so that what slows the machine slows both. */
 static int time_both(void)
 {
-    double full[2] = {0}, empty[2] = {0};
     memcpy(&other, &one, sizeof one);
     draw_list(one.terms, NGI_LIST);
-    for (int round = 0; round < ROUNDS; round++) {
-        time_lists(ngi_flip, &one, NGI_LIST, LISTS_TIMED, &full[0]);
-        time_lists(plain_flip, &other, NGI_LIST, LISTS_TIMED, &full[1]);
-        time_lists(ngi_flip, &one, 0, EMPTY_LISTS_TIMED, &empty[0]);
-        time_lists(plain_flip, &other, 0, EMPTY_LISTS_TIMED, &empty[1]);
-    }
-    printf("%.0f %.0f %.2f ", NGI_LIST / full[0], NGI_LIST / full[1], full[1] / full[0]);
-    printf("%.1f %.1f %.2f\n", 1e6 * empty[0], 1e6 * empty[1], empty[1] / empty[0]);
-    return 0;
+    return time_flips(apply_by, NGI_LIST, LISTS_TIMED, EMPTY_LISTS_TIMED);
 }
 
 /* The list drawn has the same length for any number of flips, so that nothing but the flips differs. */

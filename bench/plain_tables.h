@@ -1,6 +1,6 @@
 /*
- * What a plain flip list and a plain walk share: the lent tables, the judgement of reason 12, and one flip. Where a clause comes to one true
- * literal, or to two, it is scanned for the other one.
+ * What a plain flip list, a plain walk and the plain program share: the lent tables, the judgement of reason 12, and one flip. Where a clause
+ * comes to one true literal, or to two, it is scanned for the other one.
  */
 #ifndef PLAIN_TABLES_H
 #define PLAIN_TABLES_H
@@ -164,7 +164,7 @@ static int rest_is_zero(const struct tables *t)
            zeros(t->places, t->clauses, NGI_PLACES_SIZE);
 }
 
-static int agree(const struct tables *t)
+static inline int agree(const struct tables *t)
 {
     return counts_fit(t) && names_fit(t) && starts_fit(t) && literals_fit(t) && occurrences_fit(t) && true_and_break_counts_fit(t) &&
            list_fits(t) && rest_is_zero(t);

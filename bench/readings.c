@@ -15,7 +15,7 @@
 #include "common.h"
 #include "plain.h"
 
-enum { CHANGES_CHECKED = 64, ROUNDS = 5, READINGS_TIMED = 16, RUBBISH = 0x5a };
+enum { CHANGES_CHECKED = 64, READINGS_TIMED = 16, RUBBISH = 0x5a };
 
 typedef __typeof__(ngi_read) read_function;
 
@@ -126,23 +126,21 @@ static int check(uint32_t terms, uint32_t clauses, uint32_t literals)
     return 0;
 }
 
-/* Seconds for one reading, the least of the rounds so far. */
-static void time_readings(read_function *read, struct tables *t, double *least)
+static void read_by(int side, uint32_t flips)
 {
-    double start = seconds();
-    read_accepted(read, t, READINGS_TIMED);
-    keep_least(least, (seconds() - start) / READINGS_TIMED);
+    (void)flips;
+    if (side == NGI)
+        read_accepted(ngi_read, &one, 1);
+    else
+        read_accepted(plain_read, &other, 1);
 }
 
-/* The two take turns, so that what slows the machine slows both. */
 static int time_both(void)
 {
-    double least[2] = {0};
-    for (int round = 0; round < ROUNDS; round++) {
-        time_readings(ngi_read, &one, &least[0]);
-        time_readings(plain_read, &other, &least[1]);
-    }
-    printf("%.1f %.1f %.2f\n", 1e6 * least[0], 1e6 * least[1], least[1] / least[0]);
+    double least[SIDES] = {0};
+    for (int round = 0; round < ROUNDS; round++)
+        take_turns(read_by, 0, READINGS_TIMED, least);
+    print_times(least);
     return 0;
 }
 

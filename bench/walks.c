@@ -1,6 +1,5 @@
 /*
- * Walks through ngi_walk and through the plain C version. KIND is 3-SAT, for clauses of three random literals, or 2..MOST, for orphans with
- * that many parents to choose from.
+ * Walks through ngi_walk and through the plain C version. KIND is as in files.h.
  *
  *   walks check KIND TERMS CLAUSES             gives both the same orders, on this file and on an easier one; the status is 0 where answers
  *                                              and tables are the same throughout, given up on this one, found on the easier
@@ -18,7 +17,7 @@
 #include "plain.h"
 
 enum { REFUSED = 0, FOUND = 1, GAVE_UP = 2 };
-enum { SEED = 1, BIAS = 400, SEEDS_CHECKED = 8, ROUNDS = 5, FLIPS_TIMED = 100000, WITHOUT_FLIPS_TIMED = 64 };
+enum { SEED = 1, BIAS = 400, SEEDS_CHECKED = 8, FLIPS_TIMED = 100000, WITHOUT_FLIPS_TIMED = 64 };
 
 typedef __typeof__(ngi_walk) walk_function;
 
@@ -27,15 +26,6 @@ struct order {
 };
 
 static struct tables one, other;
-
-static void make_file(const char *kind, uint32_t terms, uint32_t clauses)
-{
-    memset(&one, 0, sizeof one);
-    if (strcmp(kind, "3-SAT") == 0)
-        make_three_sat(&one, terms, clauses);
-    else
-        make_placement(&one, terms, clauses, number(kind + sizeof "2.." - 1));
-}
 
 /* --- calls --- */
 
@@ -79,7 +69,7 @@ static int check(const char *kind, uint32_t terms, uint32_t clauses)
         walk_by_both(given_up[at], GAVE_UP);
     for (size_t at = 0; at < sizeof refused / sizeof *refused; at++)
         walk_by_both(refused[at], REFUSED);
-    make_file(kind, terms, clauses / 4);
+    make_file(&one, kind, terms, clauses / 4);
     for (uint32_t seed = 1; seed <= SEEDS_CHECKED; seed++)
         walk_by_both((struct order){seed, 100000, 1, BIAS}, FOUND);
     one.uncovered++;
@@ -87,29 +77,18 @@ static int check(const char *kind, uint32_t terms, uint32_t clauses)
     return 0;
 }
 
-/* Seconds for one walk, the least of the rounds so far. */
-static void time_walks(walk_function *by, struct tables *t, uint32_t flips, int walks, double *least)
+static void walk_by(int side, uint32_t flips)
 {
-    double start = seconds();
-    for (int done = 0; done < walks; done++)
-        walk_on(by, t, flips);
-    keep_least(least, (seconds() - start) / walks);
+    if (side == NGI)
+        walk_on(ngi_walk, &one, flips);
+    else
+        walk_on(plain_walk, &other, flips);
 }
 
-/* The two take turns, so that what slows the machine slows both. */
 static int time_both(void)
 {
-    double full[2] = {0}, empty[2] = {0};
     memcpy(&other, &one, sizeof one);
-    for (int round = 0; round < ROUNDS; round++) {
-        time_walks(ngi_walk, &one, FLIPS_TIMED, 1, &full[0]);
-        time_walks(plain_walk, &other, FLIPS_TIMED, 1, &full[1]);
-        time_walks(ngi_walk, &one, 0, WITHOUT_FLIPS_TIMED, &empty[0]);
-        time_walks(plain_walk, &other, 0, WITHOUT_FLIPS_TIMED, &empty[1]);
-    }
-    printf("%.0f %.0f %.2f ", FLIPS_TIMED / full[0], FLIPS_TIMED / full[1], full[1] / full[0]);
-    printf("%.1f %.1f %.2f\n", 1e6 * empty[0], 1e6 * empty[1], empty[1] / empty[0]);
-    return 0;
+    return time_flips(walk_by, FLIPS_TIMED, 1, WITHOUT_FLIPS_TIMED);
 }
 
 static int run(const char *side, uint32_t flips)
@@ -122,7 +101,7 @@ static int run(const char *side, uint32_t flips)
 int main(int count, char **words)
 {
     if (count >= 5)
-        make_file(words[2], number(words[3]), number(words[4]));
+        make_file(&one, words[2], number(words[3]), number(words[4]));
     if (count == 5 && strcmp(words[1], "check") == 0)
         return check(words[2], number(words[3]), number(words[4]));
     if (count == 5 && strcmp(words[1], "time") == 0)

@@ -14,7 +14,7 @@ extern "C" {
 #define NGI_CLAUSES 8192
 #define NGI_LITERALS 16384
 
-/* The most bytes in one clause text. */
+/* The most bytes in one clause text, and in one whole input of a run. */
 #define NGI_TEXT 65536
 
 /* The most flips in one list. */
@@ -37,6 +37,9 @@ extern "C" {
 #define NGI_UNCOVERED_LIST_SIZE NGI_CLAUSES            /* the clauses with no true literal */
 #define NGI_PLACES_SIZE NGI_CLAUSES                    /* by clause: its place in that list, from 0; 0 if covered */
 
+/* The full size of the buffer that ngi_run writes to: no report is longer. Longer may be lent here too. */
+#define NGI_OUT_SIZE (10 * NGI_TERMS + 64)
+
 /* Why a call was refused. */
 enum {
     NGI_NO_REASON = 0,
@@ -49,6 +52,7 @@ enum {
     NGI_TOO_MANY_LITERALS = 7, /* a literal when NGI_LITERALS are held */
     NGI_TOO_MANY_CLAUSES = 8,  /* a kept line when NGI_CLAUSES are held */
     NGI_NO_CLAUSE = 9,         /* no line was kept */
+    NGI_SHEET_FORM = 10,       /* an order sheet's line has the wrong form; told by ngi_run alone, in print */
     NGI_OUT_OF_RANGE = 11,     /* a number outside its range */
     NGI_TABLES_DISAGREE = 12,  /* no clause stands, or some count or entry of a table is not what the others say */
     NGI_UNKNOWN_TERM = 13,     /* a flip list names a term not below the term count */
@@ -62,7 +66,10 @@ typedef struct {
     uint32_t state;  /* the generator's state now; as it was where there is a reason */
 } ngi_drawn;
 
-/* One draw from a state above 0: 32-bit xorshift, by 13 to the left, 17 to the right, 5 to the left. The number is the new state. */
+/*
+ * One draw from a state above 0: 32-bit xorshift, by 13 to the left, 17 to the right, 5 to the left. The number is the new state. The
+ * generator's state is at first a seed, then what the last draw, choice or heads gave as its state.
+ */
 ngi_drawn ngi_draw(uint32_t state);
 
 /* A choice among m, m above 0: the draw's remainder by m, so a number from 0 to m - 1. */
@@ -85,17 +92,17 @@ typedef struct {
  * full sizes. A reading refused for reason 1 changes nothing; refused for another, it leaves 0 in every entry up to the full sizes. Reasons
  * are tested in the order 1, 2, 3, then the text from the left, up to the first fault (4 to 8), whose line is told, then 9.
  */
-ngi_read_answer ngi_read(const uint8_t *text, size_t text_length,
-                         uint64_t *names, size_t names_length,
-                         uint32_t *values, size_t values_length,
-                         uint16_t *starts, size_t starts_length,
-                         uint16_t *literals_table, size_t literals_table_length,
-                         uint16_t *occurrence_starts, size_t occurrence_starts_length,
-                         uint16_t *occurrences, size_t occurrences_length,
-                         uint16_t *true_counts, size_t true_counts_length,
-                         uint16_t *break_counts, size_t break_counts_length,
-                         uint16_t *uncovered_list, size_t uncovered_list_length,
-                         uint16_t *places, size_t places_length);
+ngi_read_answer ngi_read(const uint8_t *text, size_t text_length,                      /* clause text; over NGI_TEXT bytes is reason 2 */
+                         uint64_t *names, size_t names_length,                         /* at least NGI_NAMES_SIZE */
+                         uint32_t *values, size_t values_length,                       /* at least NGI_VALUES_SIZE */
+                         uint16_t *starts, size_t starts_length,                       /* at least NGI_STARTS_SIZE */
+                         uint16_t *literals_table, size_t literals_table_length,       /* at least NGI_LITERALS_SIZE */
+                         uint16_t *occurrence_starts, size_t occurrence_starts_length, /* at least NGI_OCCURRENCE_STARTS_SIZE */
+                         uint16_t *occurrences, size_t occurrences_length,             /* at least NGI_OCCURRENCES_SIZE */
+                         uint16_t *true_counts, size_t true_counts_length,             /* at least NGI_TRUE_COUNTS_SIZE */
+                         uint16_t *break_counts, size_t break_counts_length,           /* at least NGI_BREAK_COUNTS_SIZE */
+                         uint16_t *uncovered_list, size_t uncovered_list_length,       /* at least NGI_UNCOVERED_LIST_SIZE */
+                         uint16_t *places, size_t places_length);                      /* at least NGI_PLACES_SIZE */
 
 /* The answer to a walk. */
 typedef struct {
@@ -108,23 +115,26 @@ typedef struct {
 
 /*
  * Walks from drawn values, one flip after another, until no clause is uncovered (found) or until each of the walks has made its flips (gave
- * up). The seed is from 1 to 4,294,967,295, flips for each walk from 0 to 100,000, walks from 1 to 1,000, the bias, in thousandths, from 0 to
- * 1,000. The values that stand are not looked at: the answer depends on these four numbers and the clauses alone. Afterwards the tables hold
- * the end of the last walk, ready for another call; names, starts, literals, occurrence starts and occurrences are only read. A refused walk
- * leaves every table as it was. Reasons are tested in the order 1, 11, 12.
+ * up). The values that stand are not looked at: the answer depends on the first four numbers and the clauses alone. Afterwards the tables
+ * hold the end of the last walk, ready for another call; names, starts, literals, occurrence starts and occurrences are only read. A refused
+ * walk leaves every table as it was. Reasons are tested in the order 1, 11, 12.
  */
-ngi_walk_answer ngi_walk(uint32_t seed, uint32_t flips, uint32_t walks, uint32_t bias,
-                         uint32_t terms, uint32_t clauses, uint32_t literals, uint32_t uncovered,
-                         const uint64_t *names, size_t names_length,
-                         uint32_t *values, size_t values_length,
-                         const uint16_t *starts, size_t starts_length,
-                         const uint16_t *literals_table, size_t literals_table_length,
-                         const uint16_t *occurrence_starts, size_t occurrence_starts_length,
-                         const uint16_t *occurrences, size_t occurrences_length,
-                         uint16_t *true_counts, size_t true_counts_length,
-                         uint16_t *break_counts, size_t break_counts_length,
-                         uint16_t *uncovered_list, size_t uncovered_list_length,
-                         uint16_t *places, size_t places_length);
+ngi_walk_answer ngi_walk(uint32_t seed,                                                      /* the first state: 1 to 4,294,967,295 */
+                         uint32_t flips,                                                     /* for each walk: 0 to 100,000 */
+                         uint32_t walks,                                                     /* 1 to 1,000 */
+                         uint32_t bias,                                                      /* in thousandths: 0 to 1,000 */
+                         uint32_t terms, uint32_t clauses,                                   /* the counts that the last call gave, */
+                         uint32_t literals, uint32_t uncovered,                              /* all four of them */
+                         const uint64_t *names, size_t names_length,                         /* at least NGI_NAMES_SIZE */
+                         uint32_t *values, size_t values_length,                             /* at least NGI_VALUES_SIZE */
+                         const uint16_t *starts, size_t starts_length,                       /* at least NGI_STARTS_SIZE */
+                         const uint16_t *literals_table, size_t literals_table_length,       /* at least NGI_LITERALS_SIZE */
+                         const uint16_t *occurrence_starts, size_t occurrence_starts_length, /* at least NGI_OCCURRENCE_STARTS_SIZE */
+                         const uint16_t *occurrences, size_t occurrences_length,             /* at least NGI_OCCURRENCES_SIZE */
+                         uint16_t *true_counts, size_t true_counts_length,                   /* at least NGI_TRUE_COUNTS_SIZE */
+                         uint16_t *break_counts, size_t break_counts_length,                 /* at least NGI_BREAK_COUNTS_SIZE */
+                         uint16_t *uncovered_list, size_t uncovered_list_length,             /* at least NGI_UNCOVERED_LIST_SIZE */
+                         uint16_t *places, size_t places_length);                            /* at least NGI_PLACES_SIZE */
 
 /* The answer to a flip list. */
 typedef struct {
@@ -138,18 +148,38 @@ typedef struct {
  * date; the other tables are only read. The empty list is applied too. The whole list is looked at before any flip: a list is applied
  * whole or refused whole, and a refused one leaves every table as it was. Reasons are tested in the order 1, 14, 12, 13.
  */
-ngi_flip_answer ngi_flip(const uint16_t *list, size_t list_length,
-                         uint32_t terms, uint32_t clauses, uint32_t literals, uint32_t uncovered,
-                         const uint64_t *names, size_t names_length,
-                         uint32_t *values, size_t values_length,
-                         const uint16_t *starts, size_t starts_length,
-                         const uint16_t *literals_table, size_t literals_table_length,
-                         const uint16_t *occurrence_starts, size_t occurrence_starts_length,
-                         const uint16_t *occurrences, size_t occurrences_length,
-                         uint16_t *true_counts, size_t true_counts_length,
-                         uint16_t *break_counts, size_t break_counts_length,
-                         uint16_t *uncovered_list, size_t uncovered_list_length,
-                         uint16_t *places, size_t places_length);
+ngi_flip_answer ngi_flip(const uint16_t *list, size_t list_length,                           /* term numbers; over NGI_LIST is reason 14 */
+                         uint32_t terms, uint32_t clauses,                                   /* the counts that the last call gave, */
+                         uint32_t literals, uint32_t uncovered,                              /* all four of them */
+                         const uint64_t *names, size_t names_length,                         /* at least NGI_NAMES_SIZE */
+                         uint32_t *values, size_t values_length,                             /* at least NGI_VALUES_SIZE */
+                         const uint16_t *starts, size_t starts_length,                       /* at least NGI_STARTS_SIZE */
+                         const uint16_t *literals_table, size_t literals_table_length,       /* at least NGI_LITERALS_SIZE */
+                         const uint16_t *occurrence_starts, size_t occurrence_starts_length, /* at least NGI_OCCURRENCE_STARTS_SIZE */
+                         const uint16_t *occurrences, size_t occurrences_length,             /* at least NGI_OCCURRENCES_SIZE */
+                         uint16_t *true_counts, size_t true_counts_length,                   /* at least NGI_TRUE_COUNTS_SIZE */
+                         uint16_t *break_counts, size_t break_counts_length,                 /* at least NGI_BREAK_COUNTS_SIZE */
+                         uint16_t *uncovered_list, size_t uncovered_list_length,             /* at least NGI_UNCOVERED_LIST_SIZE */
+                         uint16_t *places, size_t places_length);                            /* at least NGI_PLACES_SIZE */
+
+/*
+ * Runs an order sheet: what the program prints for the input stands first in out, and its length, above 0, is returned; the rest of out is as
+ * it was. The report ends with byte 10, and no byte 0 is put after it. Input over NGI_TEXT bytes and a refused text leave 0 in every table up
+ * to its full size, a refused sheet leaves every table as it was, and a walk leaves its end. Where a table or out is shorter than its full
+ * size, 0 is returned and nothing is written.
+ */
+size_t ngi_run(const uint8_t *input, size_t input_length,                    /* the four lines of a sheet, then clause text */
+               uint64_t *names, size_t names_length,                         /* at least NGI_NAMES_SIZE */
+               uint32_t *values, size_t values_length,                       /* at least NGI_VALUES_SIZE */
+               uint16_t *starts, size_t starts_length,                       /* at least NGI_STARTS_SIZE */
+               uint16_t *literals_table, size_t literals_table_length,       /* at least NGI_LITERALS_SIZE */
+               uint16_t *occurrence_starts, size_t occurrence_starts_length, /* at least NGI_OCCURRENCE_STARTS_SIZE */
+               uint16_t *occurrences, size_t occurrences_length,             /* at least NGI_OCCURRENCES_SIZE */
+               uint16_t *true_counts, size_t true_counts_length,             /* at least NGI_TRUE_COUNTS_SIZE */
+               uint16_t *break_counts, size_t break_counts_length,           /* at least NGI_BREAK_COUNTS_SIZE */
+               uint16_t *uncovered_list, size_t uncovered_list_length,       /* at least NGI_UNCOVERED_LIST_SIZE */
+               uint16_t *places, size_t places_length,                       /* at least NGI_PLACES_SIZE */
+               uint8_t *out, size_t out_length);                             /* at least NGI_OUT_SIZE */
 
 #ifdef __cplusplus
 }

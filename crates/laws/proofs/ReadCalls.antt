@@ -66,7 +66,7 @@ by-reading s (accepted f) q a b = a f q
 by-reading s (refused e) q a b = b e q
 
 -- the reason's number, and 0 of an accepted reading
-abbrev reasonIn : Reading → ℕ
+abbrev pub reasonIn : Reading → ℕ
 reasonIn (accepted f) = 0
 reasonIn (refused e) = numberOf (e .reason)
 
@@ -123,7 +123,7 @@ module _ (lim : Limits) (text : List ℕ) where
       by-lt (lim .text) (length text) (λ l. long (is-long l) l)
       (λ s. by-cases (openEnd text) (λ o. cut (is-open s o) s o) (λ c. late (is-late s c)))
 
-  text-2 : (number ≡ 2) ↔ (lim .text < length text)
+  pub text-2 : (number ≡ 2) ↔ (lim .text < length text)
   text-2 = (λ q. by-tests (λ _ l. l) (λ n. absurd (omega arith)) (λ h. absurd (omega (arith, late-some read h (omega arith)))), is-long)
 
   text-3 : (number ≡ 3) ↔ ((length text ≤ lim .text) × (openEnd text ≡ true))
@@ -138,11 +138,11 @@ module _ (lim : Limits) (text : List ℕ) where
   text-1 : number ≡ 1 → ⊥
   text-1 q = by-tests (λ n. omega arith) (λ n _. omega arith) (λ h. omega (arith, late-some read h (omega arith)))
 
-  refused-from : (e : Fault) → readText lim text ≡ refused e → 2 ≤ numberOf (e .reason)
+  pub refused-from : (e : Fault) → readText lim text ≡ refused e → 2 ≤ numberOf (e .reason)
   refused-from e r =
       by-tests (λ n _. omega (arith, ap reasonIn r)) (λ n _ _. omega (arith, ap reasonIn r)) (λ h. omega (arith, late-from e (subst Late r h)))
 
-  text-to : number ≤ 9
+  pub text-to : number ≤ 9
   text-to = by-tests (λ n _. omega arith) (λ n _ _. omega arith) (λ h. late-to read h)
 
 -- "text not empty and last byte not 10"

@@ -1,7 +1,7 @@
 -- The answer line read again, token by token: each term once, in order, negated exactly if its value is 0. Assumes nothing.
-use Prim.Native.Nat.{ℕ, zero, suc, _+_, _≤_, _<_}
+use Prim.Native.Nat.{ℕ, suc, _+_, _≤_, _<_}
 use mathlib.Core.Path.{_≡_, refl, ap, sym, _∙_}
-use mathlib.Core.Bool.{Bool, true, false}
+use mathlib.Core.Bool.{true, false}
 use mathlib.Core.List.{List, [], _∷_, _++_, append-assoc}
 use native.Mathlib.Omega.{arith}
 use native.Mathlib.Nat.{add-zero}
@@ -11,7 +11,7 @@ use lib.Dec.{eqb, leb}
 use borrow.Author.Tests.{lt-leb, ne-eqb}
 use Rattle.scan.specs.declared.Cursor.{Cursor}
 use Rattle.scan.specs.declared.Token.{Token}
-use Rattle.scan.specs.declared.Token.the-variants.{Literal, Line}
+use Rattle.scan.specs.declared.Token.the-variants.{Line}
 use Rattle.scan.specs.Scan.{ends, past, packed, named, tilde, scan, scanFrom, to, cursorAt, lineAfter}
 use Rattle.scan.proofs.Laws.{past-more, past-stop}
 use Rattle.scan.proofs.Names.{byte-low, byte-high}
@@ -19,13 +19,10 @@ use Rattle.scan.proofs.Written.{named-reads}
 use Rattle.written.specs.Lists.{all}
 use Rattle.written.specs.Agreement.{isNameByte, isName}
 use Rattle.written.specs.Printed.{nameOf, signed, spaced, answer}
+pub use Rattle.laws.specs.RunCalls.{literal, tokens, literals}
 use Rattle.laws.proofs.Basics.{by-cases, both-first, both-second}
 use Rattle.laws.proofs.Spelling.{Spelt, spelt}
 use Rattle.laws.proofs.Answers.{name-length}
-
--- the token of a literal in line n
-abbrev pub literal : Bool → ℕ → ℕ → Token
-literal negated x n = Literal (record { negated = negated; name = x; line = n })
 
 -- the byte after a front
 at-seam : (pre ys : List ℕ) → getD (pre ++ ys) (length pre) 0 ≡ getD ys 0 0
@@ -142,17 +139,6 @@ line-reads n pre after =
     ∙ rw (lt-leb (length (pre ++ 10 ∷ after)) (length pre) (omega arith), ten) refl
 
 -- ---- all terms
-
--- the next k tokens from a cursor on
-abbrev pub tokens : ℕ → List ℕ → Cursor → List Token
-tokens zero t c = []
-tokens (suc k) t c = scan t c .token ∷ tokens k t (scan t c .next)
-
--- the literals of line n that give each name its value
-abbrev pub literals : ℕ → List ℕ → List ℕ → List Token
-literals n [] vs = []
-literals n (x ∷ xs) [] = []
-literals n (x ∷ xs) (v ∷ vs) = literal (eqb v 0) x n ∷ literals n xs vs
 
 -- one token more, by where it leads
 one-more : (k : ℕ) (t : List ℕ) (c d : Cursor) (token : Token) (ts : List Token) → scan t c ≡ record { token = token; next = d } → tokens k t d ≡ ts

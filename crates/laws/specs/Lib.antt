@@ -4,3 +4,4 @@ pub mod Calls
 pub mod Demands
 pub mod ReadCalls
 pub mod WalkCalls
+pub mod RunCalls

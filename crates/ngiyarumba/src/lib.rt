@@ -2,4 +2,5 @@
 mod draws;
 mod flip;
 mod read;
+mod run;
 mod walk;

@@ -41,7 +41,7 @@ fn verdict(text: &[u8]) -> Tested
 // ---- clearing
 
 // Every table to 0, in its full size.
-fn clear_all(
+pub fn clear_all(
     names: &mut [u64],
     values: &mut [u32],
     starts: &mut [u16],

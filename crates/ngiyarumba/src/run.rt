@@ -1,0 +1,43 @@
+// The program's whole work over the boundary.
+ghost use mathlib.Core.Path.{_≡_};
+ghost use Rattle.written.specs.Limits.{narrow};
+ghost use Rattle.written.specs.Tables.{lent};
+ghost use Rattle.written.specs.Program.{runOf};
+ghost use Rattle.running.specs.Running.{ended};
+
+// What stands in `out` is what the program prints for the input; the answer is its length, 0 where a table or `out` is too short.
+#[no_mangle]
+pub extern "C" fn ngi_run(
+    input: &[u8],
+    names: &mut [u64],
+    values: &mut [u32],
+    starts: &mut [u16],
+    literals_table: &mut [u16],
+    occurrence_starts: &mut [u16],
+    occurrences: &mut [u16],
+    true_counts: &mut [u16],
+    break_counts: &mut [u16],
+    uncovered_list: &mut [u16],
+    places: &mut [u16],
+    out: &mut [u8],
+) -> usize
+    ensures { λ r. ⌜ ended r (lent (now (names .exit)) (now (values .exit)) (now (starts .exit)) (now («literals_table» .exit))
+        (now («occurrence_starts» .exit)) (now (occurrences .exit)) (now («true_counts» .exit)) (now («break_counts» .exit)) (now («uncovered_list» .exit)) (now (places .exit))) (now (out .exit))
+        ≡ runOf narrow (now (input .entry)) (lent (now (names .entry)) (now (values .entry)) (now (starts .entry)) (now («literals_table» .entry))
+        (now («occurrence_starts» .entry)) (now (occurrences .entry)) (now («true_counts» .entry)) (now («break_counts» .entry)) (now («uncovered_list» .entry)) (now (places .entry))) (now (out .entry)) ⌝ }
+{
+    running::run_sheet(
+        input,
+        names,
+        values,
+        starts,
+        literals_table,
+        occurrence_starts,
+        occurrences,
+        true_counts,
+        break_counts,
+        uncovered_list,
+        places,
+        out,
+    )
+}

@@ -1,0 +1,80 @@
+-- The tests of a run, in their order: what each way through them comes to. Assumes nothing.
+use Prim.Native.Nat.{ℕ, _+_, _-_, _^_, _≤_, _<_}
+use mathlib.Core.Logic.{inl, inr}
+use mathlib.Core.Path.{_≡_, refl, ap, sym, subst, _∙_}
+use mathlib.Core.Bool.{true, false}
+use mathlib.Core.List.{List}
+use native.Mathlib.Omega.{arith}
+use lib.ListN.{length, take, drop}
+use borrow.Author.Tests.{lt-ltb, le-ltb}
+use borrow.Rule.Slice.PartAt.{part-to-end}
+use Rattle.written.specs.declared.Fault.{Fault}
+use Rattle.written.specs.declared.Sheet.{Sheet}
+use Rattle.written.specs.declared.Ordered.{Ordered}
+use Rattle.written.specs.declared.Ordered.the-variants.{Accepted, Refused}
+use Rattle.written.specs.declared.Reason.the-variants.{LongText}
+use Rattle.written.specs.Limits.{Limits}
+use Rattle.written.specs.Reasons.{fault}
+use Rattle.written.specs.Reading.{readText}
+use Rattle.written.specs.Tables.{Tables, areFull}
+use Rattle.written.specs.Sheet.{sheetOf}
+use Rattle.written.specs.Printed.{refusal}
+use Rattle.written.specs.Program.{Ran, unbegun, unread, afterReading, afterSheet, courseOf, said, reportSize, tablesAfter, ran, runOf}
+use Rattle.laws.proofs.Sheets.{Judged, sheet-judged}
+use Rattle.laws.proofs.RunCalls.{run-short, run-ran}
+use Rattle.reading.specs.Clearing.{blanked}
+use Rattle.reading.proofs.Cleared.{blanked-is}
+use Rattle.reports.specs.Pages.{page, put, CanPut}
+use Rattle.running.specs.Running.{ended, CanRun, CanRead}
+use Rattle.running.proofs.Ends.{ended-by, refusal-room}
+
+module _ (lim : Limits) (input : List ℕ) (t : Tables) (b : List ℕ) (can : CanRun lim t b) where
+  -- an input that is too long
+  pub long-ends : lim .text < length input → {r : ℕ} {u : Tables} {out : List ℕ} → u ≡ blanked lim t
+      → page r out ≡ put (refusal (fault LongText)) (page 0 b) → ended r u out ≡ ran lim t b (courseOf lim input)
+  unfolding courseOf said tablesAfter
+  long-ends long tables written =
+      rw (lt-ltb (lim .text) (length input) long) (ended-by lim t b (unread (fault LongText)) (tables ∙ blanked-is lim t (can .full)) written)
+
+  -- one that is not: its sheet decides
+  after-sheet : length input ≤ lim .text → (s : Ordered) → sheetOf input ≡ s → courseOf lim input ≡ afterSheet lim input s
+  unfolding courseOf
+  after-sheet short s q = rw (le-ltb (lim .text) (length input) short) (ap (afterSheet lim input) q)
+
+  judged : (s : Ordered) → sheetOf input ≡ s → Judged (length input) s
+  judged s q = subst (Judged (length input)) q (sheet-judged input)
+
+  module _ (e : Fault) (answer : sheetOf input ≡ Refused e) where
+    pub sheet-fits : lim .text + 1 < 10 ^ 20 → CanPut (refusal e) (page 0 b)
+    sheet-fits short = refusal-room lim t b can e short (omega (arith, judged (Refused e) answer .1))
+
+    pub sheet-ends : length input ≤ lim .text → {r : ℕ} {out : List ℕ} → page r out ≡ put (refusal e) (page 0 b)
+        → ended r t out ≡ ran lim t b (courseOf lim input)
+    unfolding afterSheet said tablesAfter
+    sheet-ends short written = ended-by lim t b (unbegun e) refl written ∙ ap (ran lim t b) (sym (after-sheet short (Refused e) answer))
+
+  module _ (s : Sheet) (answer : sheetOf input ≡ Accepted s) where
+    pub text-within : s .at ≤ length input
+    text-within = judged (Accepted s) answer .1
+
+    pub sheet-reads : CanRead lim (s .order) t b
+    sheet-reads = record { run = can; range = judged (Accepted s) answer .0 }
+
+    -- the text is lent as the part of the input from its place to the end
+    pub text-ends : length input ≤ lim .text → {z : Ran}
+        → z ≡ ran lim t b (afterReading (s .order) (readText lim (take (length input - s .at) (drop (s .at) input)))) → z ≡ ran lim t b (courseOf lim input)
+    unfolding afterSheet
+    text-ends short e =
+        e ∙ ap (λ (text : List ℕ). ran lim t b (afterReading (s .order) (readText lim text))) (part-to-end input (s .at))
+        ∙ ap (ran lim t b) (sym (after-sheet short (Accepted s) answer))
+
+-- whether a run can begin
+module _ (lim : Limits) (input : List ℕ) (t : Tables) (b : List ℕ) where
+  pub tables-short : areFull lim t ≡ false → ended 0 t b ≡ runOf lim input t b
+  tables-short h = sym (run-short lim input t b (inl h))
+
+  pub buffer-short : length b < reportSize lim → ended 0 t b ≡ runOf lim input t b
+  buffer-short h = sym (run-short lim input t b (inr h))
+
+  pub run-ends : areFull lim t ≡ true → reportSize lim ≤ length b → {z : Ran} → z ≡ ran lim t b (courseOf lim input) → z ≡ runOf lim input t b
+  run-ends full h e = e ∙ sym (run-ran lim input t b full h)

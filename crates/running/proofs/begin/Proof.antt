@@ -1,0 +1,76 @@
+-- `running::begin` meets its contract: an input that is too long and a faulty sheet are refused; else the text is read. Assumes nothing.
+use mathlib.Core.Path.{sym, _∙_}
+use native.Mathlib.Omega.{arith}
+use borrow.Author.Needs.{needs}
+use Rattle.written.specs.Limits.{narrow}
+use Rattle.running.proofs.Ends.{refusal-room}
+use Rattle.running.proofs.Courses.{long-ends, sheet-fits, sheet-ends, text-within, sheet-reads, text-ends}
+use Rattle.running.proofs.begin.Statement.{statement}
+use Rattle.running.proofs.begin.Tie as tie
+
+returns : tie.Need-returns
+returns c =
+    let said = c .before .before in
+    let wiped = said .before .before .before .before .before .before .before .before .before .before .before .before .before .before .before .before .before .before .before .before .before .before in
+    let test = wiped .before .before .before .before .before .before .before .before .before .before .before in
+    long-ends narrow _ _ _ (test .before .before .before .before .before .before .before .before .before .before .before .before .before .pre) (test .if1 .taken) (wiped .clear-all .ensures) (said .refusal .ensures)
+
+refusal-requires-2 : tie.Need-refusal-requires-2
+refusal-requires-2 c κs =
+    let told = c .before .before in
+    sheet-fits narrow _ _ _ (told .before .before .before .before .before .before .before .before .before .before .before .before .before .before .before .before .pre) _ (sym (told .before .before .sheet .ensures) ∙ told .e .given .1) (omega arith)
+
+returns-2 : tie.Need-returns-2
+returns-2 c =
+    let said = c .before .before in
+    let told = said .before .before .before in
+    sheet-ends narrow _ _ _ (told .before .before .before .before .before .before .before .before .before .before .before .before .before .before .before .before .pre) _ (sym (told .before .before .sheet .ensures) ∙ told .e .given .1) (told .before .before .before .if1 .left) (said .refusal2 .ensures)
+
+sub-read-on : tie.Need-sub-read-on
+sub-read-on c =
+    let told = c .before .before .before in
+    text-within narrow _ _ _ (told .before .before .before .before .before .before .before .before .before .before .before .before .before .before .before .before .pre) _ (sym (told .before .before .sheet .ensures) ∙ told .s .given .1)
+
+read-on-requires : tie.Need-read-on-requires
+read-on-requires c κs =
+    let told = c .before .before .before .before .before .before .before .before .before .before .before .before .before .before .before in
+    sheet-reads narrow _ _ _ (told .before .before .before .before .before .before .before .before .before .before .before .before .before .before .before .before .pre) _ (sym (told .before .before .sheet .ensures) ∙ told .s .given .1)
+
+returns-3 : tie.Need-returns-3
+returns-3 c =
+    let done = c .before .before .before .before .before .before .before .before .before .before .before .before .before .before .before .before .before .before .before .before .before .before in
+    let told = done .before .before .before .before .before .before .before .before .before .before .before .before .before .before .before .before in
+    text-ends narrow _ _ _ (told .before .before .before .before .before .before .before .before .before .before .before .before .before .before .before .before .pre) _ (sym (told .before .before .sheet .ensures) ∙ told .s .given .1) (told .before .before .before .if1 .left) (done .read-on .ensures)
+
+pub begin-spec : {M : Type 1} → statement M
+begin-spec =
+    tie.close
+    (tie.spec (λ c κs. search needs)
+    (λ c κs. refusal-room narrow _ _ (c .before .before .before .before .before .before .before .before .before .before .before .before .before .before .before .before .before .before .before .before .before .before .before .before .before .before .before .before .before .before .before .before .before .before .before .before .before .before .before .before .before .before .before .before .before .pre) _ (omega arith) (omega arith))
+    (λ c. c .before .before .before .before .before .before .before .before .before .before .before .before .before .before .before .before .before .before .before .before .before .before .before .names .given)
+    (λ c. c .before .before .before .before .before .before .before .before .before .before .before .before .before .before .before .before .before .before .before .before .before .values .given)
+    (λ c. c .before .before .before .before .before .before .before .before .before .before .before .before .before .before .before .before .before .before .before .starts .given)
+    (λ c. c .before .before .before .before .before .before .before .before .before .before .before .before .before .before .before .before .before .literals .given)
+    (λ c. c .before .before .before .before .before .before .before .before .before .before .before .before .before .before .before .occurrence-starts .given)
+    (λ c. c .before .before .before .before .before .before .before .before .before .before .before .before .before .occurrences .given)
+    (λ c. c .before .before .before .before .before .before .before .before .before .before .before .trues .given)
+    (λ c. c .before .before .before .before .before .before .before .before .before .breaks .given)
+    (λ c. c .before .before .before .before .before .before .before .uncovered .given)
+    (λ c. c .before .before .before .before .before .places .given)
+    (λ c. c .before .out .given)
+    returns (λ c κs. search needs) (λ c. search needs) refusal-requires-2 (λ c. search needs) (λ c. search needs) sub-read-on sub-read-on
+    (λ c. search needs) read-on-requires
+    (λ c. c .before .out2 .given)
+    returns-2
+    (λ c. c .before .before .before .before .before .before .before .before .before .before .before .before .before .before .before .before .before .before .before .before .before .names2 .given)
+    (λ c. c .before .before .before .before .before .before .before .before .before .before .before .before .before .before .before .before .before .before .before .values2 .given)
+    (λ c. c .before .before .before .before .before .before .before .before .before .before .before .before .before .before .before .before .before .starts2 .given)
+    (λ c. c .before .before .before .before .before .before .before .before .before .before .before .before .before .before .before .literals2 .given)
+    (λ c. c .before .before .before .before .before .before .before .before .before .before .before .before .before .occurrence-starts2 .given)
+    (λ c. c .before .before .before .before .before .before .before .before .before .before .before .occurrences2 .given)
+    (λ c. c .before .before .before .before .before .before .before .before .before .trues2 .given)
+    (λ c. c .before .before .before .before .before .before .before .breaks2 .given)
+    (λ c. c .before .before .before .before .before .uncovered2 .given)
+    (λ c. c .before .before .before .places2 .given)
+    (λ c. c .before .out3 .given)
+    returns-3)

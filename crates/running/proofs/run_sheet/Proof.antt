@@ -1,0 +1,48 @@
+-- `running::run_sheet` meets its contract: with a table or the buffer too short nothing is done; else the run begins. Assumes nothing.
+use mathlib.Core.Path.{refl}
+use borrow.Author.Needs.{needs}
+use Rattle.written.specs.Limits.{narrow}
+use Rattle.written.specs.Program.{reportSize}
+use Rattle.machine.proofs.Tests.{said-no, said-yes}
+use Rattle.running.proofs.Courses.{tables-short, buffer-short, run-ends}
+use Rattle.running.proofs.run_sheet.Statement.{statement}
+use Rattle.running.proofs.run_sheet.Tie as tie
+
+returns : tie.Need-returns
+returns c = tables-short narrow _ _ _ (said-no (c .if1 .taken) (c .before .are-full .ensures))
+
+returns-2 : tie.Need-returns-2
+unfolding reportSize
+returns-2 c = buffer-short narrow _ _ _ (c .if2 .taken)
+
+begin-requires : tie.Need-begin-requires
+unfolding reportSize
+begin-requires c κs =
+    let test = c .before .before .before .before .before .before .before .before .before .before .before in
+    record { full = said-yes (test .before .if1 .left) (test .before .before .are-full .ensures); room = test .if2 .left }
+
+returns-3 : tie.Need-returns-3
+unfolding reportSize
+returns-3 c =
+    let done = c .before .before .before .before .before .before .before .before .before .before .before .before .before .before .before .before .before .before .before .before .before .before in
+    let test = done .before .before .before .before .before .before .before .before .before .before .before .before in
+    run-ends narrow _ _ _ (said-yes (test .before .if1 .left) (test .before .before .are-full .ensures)) (test .if2 .left) (done .begin .ensures)
+
+pub run-sheet-spec : {M : Type 1} → statement M
+run-sheet-spec =
+    tie.close
+    (tie.spec (λ c κs. search needs)
+    (λ c. refl) (λ c. refl) (λ c. refl) (λ c. refl) (λ c. refl) (λ c. refl) (λ c. refl) (λ c. refl) (λ c. refl) (λ c. refl) returns
+    (λ c. refl) (λ c. refl) (λ c. refl) (λ c. refl) (λ c. refl) (λ c. refl) (λ c. refl) (λ c. refl) (λ c. refl) (λ c. refl) returns-2 begin-requires
+    (λ c. c .before .before .before .before .before .before .before .before .before .before .before .before .before .before .before .before .before .before .before .before .before .names .given)
+    (λ c. c .before .before .before .before .before .before .before .before .before .before .before .before .before .before .before .before .before .before .before .values .given)
+    (λ c. c .before .before .before .before .before .before .before .before .before .before .before .before .before .before .before .before .before .starts .given)
+    (λ c. c .before .before .before .before .before .before .before .before .before .before .before .before .before .before .before .literals .given)
+    (λ c. c .before .before .before .before .before .before .before .before .before .before .before .before .before .occurrence-starts .given)
+    (λ c. c .before .before .before .before .before .before .before .before .before .before .before .occurrences .given)
+    (λ c. c .before .before .before .before .before .before .before .before .before .trues .given)
+    (λ c. c .before .before .before .before .before .before .before .breaks .given)
+    (λ c. c .before .before .before .before .before .uncovered .given)
+    (λ c. c .before .before .before .places .given)
+    (λ c. c .before .out .given)
+    returns-3)

@@ -1,0 +1,5 @@
+-- The functions' proofs stand beside their names; here what they lean on.
+pub mod Keys
+pub mod Digits
+pub mod Lines
+pub mod Reached

@@ -1,0 +1,2 @@
+-- A line of the order sheet, as the code judges it.
+pub mod Lines

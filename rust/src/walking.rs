@@ -1,0 +1,57 @@
+//! What a walk is asked to do, and how it ends.
+
+/// The numbers of a walk, as an order sheet gives them. A walk refuses those outside their ranges.
+#[derive(Clone, Copy, Debug, PartialEq, Eq, Hash)]
+pub struct Order {
+    /// The generator's first state: 1 to 4,294,967,295.
+    pub seed: u32,
+    /// The most flips of each walk: 0 to 100,000.
+    pub flips: u32,
+    /// The most walks, one after the other: 1 to 1,000.
+    pub walks: u32,
+    /// How often, in thousandths, any literal of the clause may be chosen where each would uncover
+    /// another clause: 0 to 1,000.
+    pub bias: u32,
+}
+
+/// How walks end.
+///
+/// ```
+/// use ngiyarumba::{Order, Outcome, Tables};
+///
+/// let mut tables = Tables::new();
+/// tables.read("a\n~a\n")?;
+/// let outcome = tables.walk(Order { seed: 1, flips: 2, walks: 1, bias: 400 })?;
+/// assert_eq!(outcome, Outcome::GaveUp { walks: 1, flips: 2, uncovered: 1 });
+/// assert_eq!(tables.answer(), None);
+/// # Ok::<(), ngiyarumba::Error>(())
+/// ```
+#[derive(Clone, Copy, Debug, PartialEq, Eq, Hash)]
+pub enum Outcome {
+    /// Every clause has a true literal. The tables hold the answer.
+    Found {
+        /// Those begun.
+        walks: u32,
+        /// Made, summed over all walks.
+        flips: u32,
+        /// The terms that are true.
+        chosen: u32,
+    },
+    /// Each walk has made its flips. The tables hold the end of the last one. There may be an answer
+    /// all the same.
+    GaveUp {
+        /// Those begun.
+        walks: u32,
+        /// Made, summed over all walks.
+        flips: u32,
+        /// The clauses that have no true literal at the end of the last walk.
+        uncovered: u32,
+    },
+}
+
+impl Outcome {
+    /// Whether every clause has a true literal.
+    pub fn is_found(&self) -> bool {
+        matches!(self, Outcome::Found { .. })
+    }
+}

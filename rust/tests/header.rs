@@ -1,0 +1,121 @@
+//! The declarations in `src/sys.rs` are those of `include/ngiyarumba.h`, call by call and field by field: a linker would not say.
+
+use std::collections::BTreeMap;
+
+const HEADER: &str = include_str!("../../include/ngiyarumba.h");
+const SYS: &str = include_str!("../src/sys.rs");
+
+/// The answers, by their names in the header and here.
+const ANSWERS: [(&str, &str); 4] = [
+    ("ngi_drawn", "Drawn"),
+    ("ngi_read_answer", "ReadAnswer"),
+    ("ngi_walk_answer", "WalkAnswer"),
+    ("ngi_flip_answer", "FlipAnswer"),
+];
+
+/// What a call takes and gives, in the words of Rust.
+type Calls = BTreeMap<String, (Vec<String>, String)>;
+
+fn without_comments(header: &str) -> String {
+    let parts = header.split("/*");
+    parts
+        .map(|part| part.split_once("*/").map_or(part, |(_, rest)| rest))
+        .collect()
+}
+
+fn in_rust(kind: &str) -> String {
+    match kind {
+        "size_t" => "usize".into(),
+        answer if answer.starts_with("ngi_") => {
+            let named = ANSWERS.iter().find(|(name, _)| *name == answer);
+            named.unwrap_or_else(|| panic!("{answer}")).1.into()
+        }
+        number => number.replace("uint", "u").replace("_t", ""),
+    }
+}
+
+fn parameter_in_rust(parameter: &str) -> String {
+    let (constant, plain) = match parameter.strip_prefix("const ") {
+        Some(plain) => ("const", plain),
+        None => ("mut", parameter),
+    };
+    let (kind, name) = plain.split_once(' ').expect("a type and a name");
+    match name.strip_prefix('*') {
+        Some(name) => format!("{name}: *{constant} {}", in_rust(kind)),
+        None => format!("{name}: {}", in_rust(kind)),
+    }
+}
+
+fn listed(parameters: &str) -> impl Iterator<Item = &str> {
+    let trimmed = parameters.split(',').map(str::trim);
+    trimmed.filter(|parameter| !parameter.is_empty())
+}
+
+fn calls_of_the_header() -> Calls {
+    let plain = without_comments(HEADER);
+    let calls = plain.split(';').filter_map(|part| {
+        let (before, parameters) = part.trim().strip_suffix(')')?.split_once('(')?;
+        let (kind, name) = before.lines().last()?.split_once(' ')?;
+        let parameters = listed(parameters).map(parameter_in_rust).collect();
+        Some((name.to_string(), (parameters, in_rust(kind))))
+    });
+    calls.collect()
+}
+
+fn calls_declared_here() -> Calls {
+    let declared = SYS.split("    fn ngi_").skip(1).map(|part| {
+        let (name, rest) = part.split_once('(').unwrap();
+        let (parameters, rest) = rest.split_once(')').unwrap();
+        let kind = rest.split([';', '{']).next().unwrap();
+        let kind = kind.trim().trim_start_matches("-> ").to_string();
+        let parameters = listed(parameters).map(str::to_string).collect();
+        (format!("ngi_{name}"), (parameters, kind))
+    });
+    declared.collect()
+}
+
+#[test]
+fn every_call_is_declared_as_in_the_header() {
+    let calls = calls_of_the_header();
+    assert_eq!(calls.len(), 7);
+    assert_eq!(calls, calls_declared_here());
+}
+
+fn fields_of_the_header(answer: &str) -> Vec<String> {
+    let plain = without_comments(HEADER);
+    let (before, _) = plain.split_once(&format!("}} {answer};")).unwrap();
+    let (_, fields) = before.rsplit_once("typedef struct {").unwrap();
+    let lines = fields
+        .split(';')
+        .map(|line| line.trim().replace("uint32_t", ""));
+    let names = lines.flat_map(|line| listed(&line).map(str::to_string).collect::<Vec<_>>());
+    names.collect()
+}
+
+fn fields_declared_here(answer: &str) -> Vec<String> {
+    let head = format!("#[repr(C)]\npub struct {answer} {{");
+    let (fields, _) = SYS.split_once(&head).unwrap().1.split_once('}').unwrap();
+    let fields = fields.replace(
+        "counts: Counts",
+        "terms: u32, clauses: u32, literals: u32, uncovered: u32",
+    );
+    let names = listed(&fields).map(|field| {
+        field
+            .trim_start_matches("pub ")
+            .strip_suffix(": u32")
+            .unwrap()
+            .to_string()
+    });
+    names.collect()
+}
+
+#[test]
+fn every_answer_has_the_fields_of_the_header() {
+    for (in_header, here) in ANSWERS {
+        assert_eq!(
+            fields_of_the_header(in_header),
+            fields_declared_here(here),
+            "{here}"
+        );
+    }
+}

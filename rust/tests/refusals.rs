@@ -1,0 +1,190 @@
+//! Every reason that a call of this crate can give, its words, its line and what it leaves.
+
+mod common;
+
+use common::*;
+use ngiyarumba::{run, Counts, Error, Generator, Order, Reason, Tables};
+
+/// Reads this over tables that held something, and sees that nothing is left.
+fn refused(text: &str) -> Error {
+    let mut tables = read(TEXT);
+    let error = tables.read(text).unwrap_err();
+    assert_eq!(tables, Tables::new());
+    assert_eq!(tables.counts(), Counts::default());
+    error
+}
+
+fn assert_refused(text: &str, reason: Reason, line: Option<u32>) {
+    let error = refused(text);
+    assert_eq!((error.reason(), error.line()), (reason, line));
+}
+
+#[test]
+fn reason_2_a_long_text() {
+    assert_refused(&"~".repeat(65_537), Reason::LongText, None);
+    let longest = format!("a{}\n", " ".repeat(65_534));
+    assert_eq!(read(&longest).counts().clauses, 1);
+}
+
+#[test]
+fn reason_3_an_open_end() {
+    assert_refused("a b\n~a b", Reason::OpenEnd, None);
+}
+
+#[test]
+fn reason_4_a_bad_byte() {
+    assert_refused("a\n\na\tb\n", Reason::BadByte, Some(3));
+    assert_refused("a~b\n", Reason::BadByte, Some(1));
+}
+
+#[test]
+fn reason_5_a_long_name() {
+    assert_refused("~ note\ncreek billabong\n", Reason::LongName, Some(2));
+}
+
+#[test]
+fn reason_6_no_room_for_a_term() {
+    let names = |count| (1..=count).map(|name| format!("{name}\n")).collect();
+    let most: String = names(2_048);
+    assert_eq!(read(&most).counts().terms, 2_048);
+    let more: String = names(2_049);
+    assert_refused(&more, Reason::TermRoom, Some(2_049));
+}
+
+#[test]
+fn reason_7_no_room_for_a_literal() {
+    let most = "a b c\n".repeat(5_461) + "a\n";
+    assert_eq!(read(&most).counts().literals, 16_384);
+    assert_refused(&(most + "~a\n"), Reason::LiteralRoom, Some(5_463));
+}
+
+#[test]
+fn reason_8_no_room_for_a_clause() {
+    let most = "a\n".repeat(8_192);
+    assert_eq!(read(&most).counts().clauses, 8_192);
+    assert_refused(&(most + "a\n"), Reason::ClauseRoom, Some(8_193));
+}
+
+#[test]
+fn reason_9_no_clause() {
+    assert_refused("", Reason::NoClause, None);
+    assert_refused("~ note\na ~a\n\n", Reason::NoClause, None);
+}
+
+/// A sheet is read by a run alone.
+#[test]
+fn reason_10_the_form_of_the_sheet() {
+    for (sheet, line) in [("", 1), ("seed=1\nflips=10\nwalks=01\nbias=400\n", 3)] {
+        let printed = run(format!("{sheet}{TEXT}"));
+        assert_eq!(printed, format!("result=refused\nreason=10\nline={line}\n"));
+    }
+}
+
+#[test]
+fn reason_11_numbers_out_of_range() {
+    let mut tables = read(TEXT);
+    let before = tables.clone();
+    let orders = [
+        Order { seed: 0, ..ORDER },
+        Order {
+            flips: 100_001,
+            ..ORDER
+        },
+        Order { walks: 0, ..ORDER },
+        Order {
+            walks: 1_001,
+            ..ORDER
+        },
+        Order {
+            bias: 1_001,
+            ..ORDER
+        },
+    ];
+    for order in orders {
+        let error = tables.walk(order).unwrap_err();
+        assert_eq!((error.reason(), error.line()), (Reason::OutOfRange, None));
+        assert_eq!(tables, before);
+    }
+}
+
+#[test]
+fn reason_11_draws_out_of_range() {
+    let reason = |error: Error| error.reason();
+    assert_eq!(
+        Generator::new(0).map_err(reason).unwrap_err(),
+        Reason::OutOfRange
+    );
+    let mut generator = Generator::new(7).unwrap();
+    assert_eq!(generator.choice(0).map_err(reason), Err(Reason::OutOfRange));
+    assert_eq!(
+        generator.heads(1_001).map_err(reason),
+        Err(Reason::OutOfRange)
+    );
+    assert_eq!(generator.state(), 7);
+}
+
+#[test]
+fn reason_12_no_clause_stands() {
+    let mut tables = Tables::new();
+    assert_eq!(
+        tables.walk(ORDER).unwrap_err().reason(),
+        Reason::Disagreement
+    );
+    assert_eq!(tables.flip(&[]).unwrap_err().reason(), Reason::Disagreement);
+    tables.read("a\tb\n").unwrap_err();
+    assert_eq!(
+        tables.walk(ORDER).unwrap_err().reason(),
+        Reason::Disagreement
+    );
+    assert_eq!(tables.answer(), None);
+}
+
+#[test]
+fn reason_13_an_unknown_term() {
+    let mut tables = read(TEXT);
+    let before = tables.clone();
+    assert_eq!(
+        tables.flip(&[1, 0, 2]).unwrap_err().reason(),
+        Reason::UnknownTerm
+    );
+    assert_eq!(tables, before);
+}
+
+#[test]
+fn reason_14_a_long_list() {
+    let mut tables = read(TEXT);
+    let before = tables.clone();
+    assert_eq!(
+        tables.flip(&[0; 65_537]).unwrap_err().reason(),
+        Reason::LongList
+    );
+    assert_eq!(tables, before);
+    assert!(tables.flip(&[0; 65_536]).is_ok());
+}
+
+#[test]
+fn the_program_prints_the_same_reasons() {
+    for text in ["a b", "a~b\n", "billabong\n", "", "~ note\n"] {
+        let error = refused(text);
+        let (reason, line) = (error.reason().number(), error.line().unwrap_or(0));
+        let lines = format!("result=refused\nreason={reason}\nline={line}\n");
+        assert_eq!(run(format!("{SHEET}{text}")), lines);
+    }
+}
+
+#[test]
+fn fourteen_reasons_are_numbered_from_1_and_have_words_of_their_own() {
+    let numbers = Reason::ALL.map(Reason::number);
+    assert!(numbers.into_iter().eq(1..=14));
+    let mut words = Reason::ALL.map(Reason::words).to_vec();
+    words.sort_unstable();
+    words.dedup();
+    assert_eq!(words.len(), 14);
+}
+
+#[test]
+fn an_error_says_its_line_where_it_has_one() {
+    let error: Box<dyn std::error::Error> = Box::new(refused("a\nabcdefghi\n"));
+    assert_eq!(error.to_string(), "line 2: a name has a ninth byte");
+    assert_eq!(refused("").to_string(), "no line was kept");
+}
