@@ -10,9 +10,11 @@
  *   5 draw    a state                                                    the three numbers of ngi_drawn
  *   6 choice  a state, how many to choose among                          the same
  *   7 heads   a state, a bias                                            the same
+ *   8 run     the lengths of input and output, then the bytes of each    status, the length that ngi_run gave, input, output, ten tables
  *
- * Guards stand before and after all that is lent. The status is 0 where every guard is as it was, else one more than the number of the
- * first table that has lost one, or 11 for the list or the text. The end of the input ends the program.
+ * The length that ngi_run gave is 64 bits wide. Guards stand before and after all that is lent. The status is 0 where every guard is as it was,
+ * else one more than the number of the first table that has lost one, or 11 for the list, the text or the input, or 12 for the output. The end
+ * of the input ends the program.
  */
 #include <stdint.h>
 #include <stdlib.h>
@@ -20,7 +22,7 @@
 
 #include "ngiyarumba.h"
 
-enum { LEND = 1, FLIP = 2, READ = 3, WALK = 4, DRAW = 5, CHOICE = 6, HEADS = 7 };
+enum { LEND = 1, FLIP = 2, READ = 3, WALK = 4, DRAW = 5, CHOICE = 6, HEADS = 7, RUN = 8 };
 enum { TABLES = 10, GUARD = 64 };
 enum { INPUT_CUT = 1, OUTPUT_CLOSED = 2, NO_MEMORY = 3, UNKNOWN_OPCODE = 4 };
 
@@ -32,7 +34,11 @@ struct lent {
 
 static struct lent tables[TABLES] = {{0, 0, 8}, {0, 0, 4}, {0, 0, 2}, {0, 0, 2}, {0, 0, 2},
                                      {0, 0, 2}, {0, 0, 2}, {0, 0, 2}, {0, 0, 2}, {0, 0, 2}};
-static struct lent list = {0, 0, 2}, text = {0, 0, 1};
+static struct lent list = {0, 0, 2}, text = {0, 0, 1}, input = {0, 0, 1}, output = {0, 0, 1};
+
+/* What a call is lent beside the tables; NULL ends it. */
+static const struct lent *const nothing[] = {NULL}, *const with_list[] = {&list, NULL}, *const with_text[] = {&text, NULL},
+                         *const with_input_and_output[] = {&input, &output, NULL};
 
 /* --- input and output --- */
 
@@ -125,13 +131,16 @@ static void give_entries(const struct lent *lent)
     give(entries(lent), lent->count * lent->width);
 }
 
-/* Of the tables and of what was lent beside them, if anything was. */
-static uint32_t status(const struct lent *beside)
+/* Of the tables and of what was lent beside them. */
+static uint32_t status(const struct lent *const *beside)
 {
     for (uint32_t table = 0; table < TABLES; table++)
         if (!guards_stand(&tables[table]))
             return table + 1;
-    return beside == NULL || guards_stand(beside) ? 0 : TABLES + 1;
+    for (uint32_t at = 0; beside[at] != NULL; at++)
+        if (!guards_stand(beside[at]))
+            return TABLES + 1 + at;
+    return 0;
 }
 
 /* --- requests --- */
@@ -144,13 +153,13 @@ static void lend(void)
         take_entries(&tables[table]);
 }
 
-static void give_answer(const void *answer, size_t size, const struct lent *beside)
+static void give_answer(const void *answer, size_t size, const struct lent *const *beside)
 {
     uint32_t found = status(beside);
     give(&found, sizeof found);
     give(answer, size);
-    if (beside != NULL)
-        give_entries(beside);
+    for (; *beside != NULL; beside++)
+        give_entries(*beside);
     for (int table = 0; table < TABLES; table++)
         give_entries(&tables[table]);
 }
@@ -167,7 +176,7 @@ static void flip(void)
     take_entries(&list);
     take(counts, sizeof counts);
     ngi_flip_answer answer = ngi_flip(LENT(list), counts[0], counts[1], counts[2], counts[3], LENT_TABLES);
-    give_answer(&answer, sizeof answer, &list);
+    give_answer(&answer, sizeof answer, with_list);
 }
 
 static void read_text(void)
@@ -175,7 +184,7 @@ static void read_text(void)
     renew(&text, take_number());
     take_entries(&text);
     ngi_read_answer answer = ngi_read(LENT(text), LENT_TABLES);
-    give_answer(&answer, sizeof answer, &text);
+    give_answer(&answer, sizeof answer, with_text);
 }
 
 static void walk(void)
@@ -185,7 +194,17 @@ static void walk(void)
     take(counts, sizeof counts);
     ngi_walk_answer answer =
         ngi_walk(order[0], order[1], order[2], order[3], counts[0], counts[1], counts[2], counts[3], LENT_TABLES);
-    give_answer(&answer, sizeof answer, NULL);
+    give_answer(&answer, sizeof answer, nothing);
+}
+
+static void run(void)
+{
+    renew(&input, take_number());
+    renew(&output, take_number());
+    take_entries(&input);
+    take_entries(&output);
+    uint64_t length = ngi_run(LENT(input), LENT_TABLES, LENT(output));
+    give_answer(&length, sizeof length, with_input_and_output);
 }
 
 static void give_drawn(ngi_drawn drawn)
@@ -235,6 +254,9 @@ int main(void)
             break;
         case HEADS:
             heads();
+            break;
+        case RUN:
+            run();
             break;
         default:
             exit(UNKNOWN_OPCODE);

@@ -1,7 +1,8 @@
 //! The host program, which is linked with the static library; `tests/host/host.c` says what is sent and answered.
 
 use std::io::{Read, Write};
-use std::process::{Child, ChildStdin, ChildStdout, Command, Stdio};
+use std::process::{ChildStdin, ChildStdout, Command, Stdio};
+use std::time::Duration;
 
 use oracle::draw::Drawn;
 use oracle::flips::FlipAnswer;
@@ -10,6 +11,7 @@ use oracle::walk::WalkAnswer;
 use oracle::{Counts, Order, Tables};
 
 use crate::differences::TABLE_NAMES;
+use crate::watch::Watched;
 use crate::wire::{entries_of, numbers_of, put_entries, put_numbers, request, NUMBER_WIDTH};
 use crate::NARROW;
 
@@ -23,13 +25,17 @@ const WALK: u32 = 4;
 const DRAW: u32 = 5;
 const CHOICE: u32 = 6;
 const HEADS: u32 = 7;
+const RUN: u32 = 8;
 
 /// Bytes of a flip list's entry, and of a text's.
 const TERM_WIDTH: usize = 2;
 const BYTE_WIDTH: usize = 1;
 
+/// No call takes nearly so long, not even under an emulator.
+const PATIENCE: Duration = Duration::from_secs(120);
+
 pub struct Host {
-    child: Child,
+    process: Watched,
     requests: ChildStdin,
     answers: ChildStdout,
     /// The lengths of the tables that are lent.
@@ -39,16 +45,23 @@ pub struct Host {
 /// An answer, and all that was lent as it stands after the call.
 pub struct Called<Answer> {
     pub answer: Answer,
-    /// What was lent beside the tables: a list, a text or nothing.
-    pub beside: Vec<u64>,
+    /// What was lent beside the tables, by its name: a list, a text, an input and an output, or nothing.
+    pub beside: Vec<(&'static str, Vec<u64>)>,
     pub tables: Tables,
 }
+
+/// The name, length and width of entries that are lent beside the tables.
+type Shape = (&'static str, usize, usize);
 
 /// What went wrong with a call, in words.
 pub type Fault = String;
 
 impl Host {
     pub fn start() -> Host {
+        Host::with_patience(PATIENCE)
+    }
+
+    fn with_patience(patience: Duration) -> Host {
         let mut child = Command::new(STARTER)
             .stdin(Stdio::piped())
             .stdout(Stdio::piped())
@@ -57,7 +70,7 @@ impl Host {
         Host {
             requests: child.stdin.take().expect("the input is piped"),
             answers: child.stdout.take().expect("the output is piped"),
-            child,
+            process: Watched::new(child, patience),
             lengths: [0; 10],
         }
     }
@@ -77,26 +90,16 @@ impl Host {
         let mut request = request(FLIP, &[list.len() as u64]);
         put_entries(&mut request, list, TERM_WIDTH);
         put_numbers(&mut request, &numbers_of(counts));
-        self.send(&request)?;
-        self.see_guards("list")?;
-        Ok(Called {
-            answer: self.flip_answer()?,
-            beside: self.entries(list.len(), TERM_WIDTH)?,
-            tables: self.tables()?,
-        })
+        let list = ("list", list.len(), TERM_WIDTH);
+        self.call(&request, &[list], Host::flip_answer)
     }
 
     /// `ngi_read` into the tables that are lent.
     pub fn read(&mut self, text: &[u8]) -> Result<Called<ReadAnswer>, Fault> {
         let mut request = request(READ, &[text.len() as u64]);
         request.extend(text);
-        self.send(&request)?;
-        self.see_guards("text")?;
-        Ok(Called {
-            answer: self.read_answer()?,
-            beside: self.entries(text.len(), BYTE_WIDTH)?,
-            tables: self.tables()?,
-        })
+        let text = ("text", text.len(), BYTE_WIDTH);
+        self.call(&request, &[text], Host::read_answer)
     }
 
     /// `ngi_walk` on the tables that are lent.
@@ -104,11 +107,35 @@ impl Host {
         let numbers = [order.seed, order.flips, order.walks, order.bias];
         let mut request = request(WALK, &numbers);
         put_numbers(&mut request, &numbers_of(counts));
-        self.send(&request)?;
-        self.see_guards("nothing")?;
+        self.call(&request, &[], Host::walk_answer)
+    }
+
+    /// `ngi_run` on the tables that are lent; the answer is the length it gave.
+    pub fn run(&mut self, input: &[u8], output: &[u8]) -> Result<Called<u64>, Fault> {
+        let mut request = request(RUN, &[input.len() as u64, output.len() as u64]);
+        request.extend(input);
+        request.extend(output);
+        let input = ("input", input.len(), BYTE_WIDTH);
+        let output = ("output", output.len(), BYTE_WIDTH);
+        self.call(&request, &[input, output], Host::length)
+    }
+
+    /// Sends a request, then takes its answer and all that was lent.
+    fn call<Answer>(
+        &mut self,
+        request: &[u8],
+        beside: &[Shape],
+        answer: fn(&mut Host) -> Result<Answer, Fault>,
+    ) -> Result<Called<Answer>, Fault> {
+        self.send(request)?;
+        self.see_guards(beside)?;
+        let answer = answer(self)?;
+        let mut entries = |(name, length, width): &Shape| -> Result<_, Fault> {
+            Ok((*name, self.entries(*length, *width)?))
+        };
         Ok(Called {
-            answer: self.walk_answer()?,
-            beside: Vec::new(),
+            answer,
+            beside: beside.iter().map(&mut entries).collect::<Result<_, _>>()?,
             tables: self.tables()?,
         })
     }
@@ -137,16 +164,18 @@ impl Host {
         })
     }
 
-    fn see_guards(&mut self, beside: &str) -> Result<(), Fault> {
-        match self.number()? as usize {
-            0 => Ok(()),
-            status => {
-                let lent = TABLE_NAMES.get(status - 1).unwrap_or(&beside);
-                Err(format!(
-                    "the call wrote before or after what was lent: {lent}"
-                ))
-            }
+    fn see_guards(&mut self, beside: &[Shape]) -> Result<(), Fault> {
+        let status = self.number()? as usize;
+        if status == 0 {
+            return Ok(());
         }
+        let mut names = TABLE_NAMES
+            .into_iter()
+            .chain(beside.iter().map(|shape| shape.0));
+        let lent = names.nth(status - 1).unwrap_or("something else");
+        Err(format!(
+            "the call wrote before or after what was lent: {lent}"
+        ))
     }
 
     fn flip_answer(&mut self) -> Result<FlipAnswer, Fault> {
@@ -176,6 +205,11 @@ impl Host {
         })
     }
 
+    /// All 64 bits of it, the low ones first.
+    fn length(&mut self) -> Result<u64, Fault> {
+        Ok(self.number()? | self.number()? << 32)
+    }
+
     fn counts(&mut self) -> Result<Counts, Fault> {
         Ok(Counts {
             terms: self.number()?,
@@ -200,32 +234,36 @@ impl Host {
 
     fn entries(&mut self, length: usize, width: usize) -> Result<Vec<u64>, Fault> {
         let mut bytes = vec![0; length * width];
-        match self.answers.read_exact(&mut bytes) {
-            Ok(()) => Ok(entries_of(&bytes, width)),
-            Err(_) => Err(self.end()),
-        }
+        let answers = &mut self.answers;
+        let read = self.process.wait_by(|| answers.read_exact(&mut bytes));
+        read.map_err(|_| self.process.end())?;
+        Ok(entries_of(&bytes, width))
     }
 
     fn send(&mut self, request: &[u8]) -> Result<(), Fault> {
-        let sent = self.requests.write_all(request);
-        sent.map_err(|_| self.end())
-    }
-
-    /// How the host ended before its time.
-    fn end(&mut self) -> Fault {
-        format!("the host ended in the call: {:?}", self.child.wait())
-    }
-}
-
-/// A host may still be writing an answer that nobody reads, so it is ended, not asked to end.
-impl Drop for Host {
-    fn drop(&mut self) {
-        let _ = self.child.kill();
-        let _ = self.child.wait();
+        let requests = &mut self.requests;
+        let sent = self.process.wait_by(|| requests.write_all(request));
+        sent.map_err(|_| self.process.end())
     }
 }
 
 /// Bytes of each table's entry.
 fn table_widths() -> [usize; 10] {
     NARROW.entry_bits().map(|bits| bits as usize / 8)
+}
+
+#[cfg(test)]
+mod tests {
+    use super::*;
+
+    /// The host waits for the rest of the request, as it would for a call that does not return.
+    #[test]
+    fn a_call_that_is_not_answered_ends_the_host() {
+        let mut host = Host::with_patience(Duration::from_millis(300));
+        let unfinished = request(DRAW, &[]);
+        let called = host.call(&unfinished, &[], Host::length);
+        let fault = called.err();
+        let told = "no answer in 300ms, so the host was ended";
+        assert_eq!(fault.as_deref(), Some(told));
+    }
 }

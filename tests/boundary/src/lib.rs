@@ -6,14 +6,18 @@ pub mod host;
 pub mod lengths;
 pub mod readings;
 pub mod rubbish;
+pub mod run_kinds;
+pub mod runs;
 pub mod sides;
 pub mod tally;
 pub mod texts;
 pub mod walk_kinds;
+pub mod watch;
 pub mod wire;
 
 pub use draws::Draws;
 pub use readings::Readings;
+pub use runs::Runs;
 pub use sides::Sides;
 pub use tally::Tally;
 

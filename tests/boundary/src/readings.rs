@@ -4,7 +4,6 @@ use oracle::generate::Random;
 use oracle::reading::ReadAnswer;
 use oracle::Counts;
 
-use crate::rubbish::rubbish;
 use crate::Sides;
 
 pub struct Readings {
@@ -48,7 +47,6 @@ impl Readings {
     }
 
     fn lend_rubbish(&mut self) {
-        let lent = (Counts::default(), rubbish(&mut self.random));
-        self.sides.lend(self.case.clone(), lent);
+        self.sides.lend_rubbish(self.case.clone(), &mut self.random);
     }
 }

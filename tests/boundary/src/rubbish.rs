@@ -15,3 +15,10 @@ pub fn rubbish(random: &mut Random) -> Tables {
     }
     tables
 }
+
+/// An output of full size or longer.
+pub fn rubbish_output(random: &mut Random) -> Vec<u8> {
+    let more = random.pick(&[0, 0, 1, 100]);
+    let bytes = 0..NARROW.output_size() + more;
+    bytes.map(|_| random.byte()).collect()
+}

@@ -3,13 +3,16 @@
 use std::fmt::Debug;
 
 use oracle::flips::{flip, FlipAnswer};
+use oracle::generate::Random;
 use oracle::reading::{read, ReadAnswer};
 use oracle::reasons::{NONE, TABLE_TOO_SHORT};
 use oracle::walk::{walk_telling, Step, WalkAnswer};
-use oracle::{Counts, Order, Tables};
+use oracle::{run_on, Counts, Order, Tables};
 
 use crate::differences::{difference, differences};
 use crate::host::{Called, Fault, Host};
+use crate::rubbish::rubbish;
+use crate::wire::{bytes_of, entries_of};
 use crate::{Lent, NARROW};
 
 /// Bytes of a text that a report shows.
@@ -49,12 +52,17 @@ impl Sides {
         lent.unwrap_or_else(|fault| panic!("{}: {fault}", self.case));
     }
 
+    /// Lends entries that no call may count on.
+    pub fn lend_rubbish(&mut self, case: String, random: &mut Random) {
+        self.lend(case, (Counts::default(), rubbish(random)));
+    }
+
     /// Gives a list to both; they must answer the same and leave the same.
     pub fn flip(&mut self, list: &[u64]) -> FlipAnswer {
         let called = self.host.flip(list, &self.counts);
         let answer = flip(&NARROW, list, self.counts, &mut self.tables);
         let given = format!("a list of {} flips", list.len());
-        self.compare(given, list, &answer, called);
+        self.compare(given, &[list], &answer, called);
         self.counts = answer.counts;
         answer
     }
@@ -63,8 +71,7 @@ impl Sides {
     pub fn read(&mut self, text: &[u8]) -> ReadAnswer {
         let called = self.host.read(text);
         let answer = read(&NARROW, text, &mut self.tables);
-        let bytes: Vec<u64> = text.iter().map(|byte| u64::from(*byte)).collect();
-        self.compare(shown(text), &bytes, &answer, called);
+        self.compare(shown(text), &[&entries_of(text, 1)], &answer, called);
         self.counts = answer.counts;
         answer
     }
@@ -80,19 +87,48 @@ impl Sides {
         answer
     }
 
-    /// Reports what differs between the two, where anything does.
+    /// Gives an input and an output to both; they must print the same and leave the same. Tells what is printed.
+    pub fn run(&mut self, input: &[u8], output: &mut [u8]) -> Vec<u8> {
+        let ran = self.ran(input, output);
+        let (expected, got) = (ran.printed.escape_ascii(), ran.got.escape_ascii());
+        let report = ran.report;
+        assert!(report.is_empty(), "{report}\n  \"{expected}\"\n  \"{got}\"");
+        ran.printed
+    }
+
+    /// The same, where the two may differ.
+    pub fn ran(&mut self, input: &[u8], output: &mut [u8]) -> Ran {
+        let called = self.host.run(input, output);
+        let length = run_on(&NARROW, input, &mut self.tables, output);
+        let beside = [input, output].map(|bytes| entries_of(bytes, 1));
+        let beside = beside.each_ref().map(Vec::as_slice);
+        let report = self.report(shown(input), &beside, &(length as u64), &called);
+        self.counts = counts_in(&self.tables);
+        Ran {
+            printed: output[..length].to_vec(),
+            got: called.map_or(Vec::new(), |found| printed_by(&found)),
+            report,
+        }
+    }
+
+    /// Gives an input that both must not run, since a table or the output is too short: nothing is printed, nothing changed.
+    pub fn refuse_run(&mut self, input: &[u8], output: &mut [u8]) {
+        let before = (self.tables.clone(), output.to_vec());
+        assert!(self.run(input, output).is_empty(), "{}", self.case);
+        let same = before == (self.tables.clone(), output.to_vec());
+        assert!(same, "{}", self.case);
+    }
+
+    /// The two must not differ.
     fn compare<Answer: Debug + PartialEq>(
         &mut self,
         given: String,
-        beside: &[u64],
+        beside: &[&[u64]],
         answer: &Answer,
         called: Result<Called<Answer>, Fault>,
     ) {
-        self.calls += 1;
-        let given = format!("{}, call {}: {given}", self.case, self.calls);
-        let found = called.unwrap_or_else(|fault| panic!("{given}: {fault}"));
-        let report = self.report(beside, answer, &found);
-        assert!(report.is_empty(), "{given}:{report}");
+        let report = self.report(given, beside, answer, &called);
+        assert!(report.is_empty(), "{report}");
     }
 
     /// Gives a list that both must refuse for this reason, with nothing changed.
@@ -152,21 +188,75 @@ impl Sides {
         assert!(left == self.tables, "{}: {}", self.case, shown(text));
     }
 
-    /// What differs, a line each; nothing where all is the same.
+    /// What was given and what differs between the two, a line each; nothing where all is the same.
     fn report<Answer: Debug + PartialEq>(
+        &mut self,
+        given: String,
+        beside: &[&[u64]],
+        answer: &Answer,
+        called: &Result<Called<Answer>, Fault>,
+    ) -> String {
+        self.calls += 1;
+        let differing = match called {
+            Ok(found) => self.differing(beside, answer, found),
+            Err(fault) => format!(" {fault}"),
+        };
+        if differing.is_empty() {
+            return differing;
+        }
+        format!("{}, call {}: {given}:{differing}", self.case, self.calls)
+    }
+
+    fn differing<Answer: Debug + PartialEq>(
         &self,
-        beside: &[u64],
+        beside: &[&[u64]],
         answer: &Answer,
         found: &Called<Answer>,
     ) -> String {
-        let mut report = String::new();
+        let mut differing = String::new();
         if *answer != found.answer {
-            report += &format!("\n  answer: {answer:?} expected, {:?} found", found.answer);
+            differing += &format!("\n  answer: {answer:?} expected, {:?} found", found.answer);
         }
-        if beside != found.beside {
-            report += &difference("list or text", beside, &found.beside);
+        for (expected, (name, found)) in beside.iter().zip(&found.beside) {
+            if expected != found {
+                differing += &difference(name, expected, found);
+            }
         }
-        report + &differences(&self.tables, &found.tables)
+        differing + &differences(&self.tables, &found.tables)
+    }
+}
+
+/// A run on both sides.
+pub struct Ran {
+    /// What is printed.
+    pub printed: Vec<u8>,
+    /// What the library printed; nothing where its call was not answered.
+    pub got: Vec<u8>,
+    /// What was given and what differs; nothing where all is the same.
+    pub report: String,
+}
+
+/// As many bytes of the output as the library says, if there are so many.
+fn printed_by(found: &Called<u64>) -> Vec<u8> {
+    let output = found.beside.last().map_or(&[][..], |(_, output)| output);
+    let length = output.len().min(found.answer as usize);
+    bytes_of(&output[..length])
+}
+
+/// The counts that tables hold as a reading or a walk has left them; a run does not tell them.
+fn counts_in(tables: &Tables) -> Counts {
+    let [names, _, starts, ..] = NARROW.full_sizes();
+    let used = |table: &[u64], size| {
+        let entries = table.iter().take(size);
+        entries.filter(|entry| **entry > 0).count() as u64
+    };
+    let clauses = used(&tables.starts, starts);
+    let covered = used(&tables.trues, clauses as usize);
+    Counts {
+        terms: used(&tables.names, names),
+        clauses,
+        literals: tables.starts.get(clauses as usize).copied().unwrap_or(0),
+        uncovered: clauses - covered,
     }
 }
 

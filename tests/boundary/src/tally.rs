@@ -1,7 +1,7 @@
 //! What a test has met, counted, so that no kind dries up unnoticed.
 
 use std::collections::BTreeMap;
-use std::fmt::Debug;
+use std::fmt::{Debug, Display, Formatter, Result};
 use std::thread;
 
 const WORKERS: u64 = 2;
@@ -49,21 +49,36 @@ impl<Kind: Copy + Debug + Ord> Tally<Kind> {
     }
 }
 
-/// The seeds below this number, shared out among workers that run side by side; what all of them met.
-pub fn share_out<Kind>(seeds: u64, compare: fn(&[u64]) -> Tally<Kind>) -> Tally<Kind>
-where
-    Kind: Copy + Debug + Ord + Send + 'static,
-{
-    let share = move |worker| -> Vec<u64> { (worker..seeds).step_by(WORKERS as usize).collect() };
-    let workers: Vec<_> = (0..WORKERS)
-        .map(|worker| thread::spawn(move || compare(&share(worker))))
-        .collect();
-    let mut all = Tally::default();
-    for worker in workers {
-        let met = worker.join().expect("a worker found a difference");
-        for (kind, times) in met.0 {
-            all.note_times(kind, times);
-        }
+/// In one line.
+impl<Kind: Debug> Display for Tally<Kind> {
+    fn fmt(&self, formatter: &mut Formatter) -> Result {
+        let kinds = self.0.iter();
+        let told: Vec<String> = kinds
+            .map(|(kind, times)| format!("{kind:?} {times}"))
+            .collect();
+        formatter.write_str(&told.join(", "))
     }
+}
+
+/// The seeds below this number, shared out among workers that run side by side; what all of them met.
+pub fn share_out<Kind>(seeds: u64, compare: impl Fn(&[u64]) -> Tally<Kind> + Sync) -> Tally<Kind>
+where
+    Kind: Copy + Debug + Ord + Send,
+{
+    let compare = &compare;
+    let share = |worker| -> Vec<u64> { (worker..seeds).step_by(WORKERS as usize).collect() };
+    let shares = (0..WORKERS).map(share);
+    let mut all = Tally::default();
+    thread::scope(|scope| {
+        let workers: Vec<_> = shares
+            .map(|seeds| scope.spawn(move || compare(&seeds)))
+            .collect();
+        for worker in workers {
+            let met = worker.join().expect("a worker found a difference");
+            for (kind, times) in met.0 {
+                all.note_times(kind, times);
+            }
+        }
+    });
     all
 }

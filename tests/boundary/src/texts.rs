@@ -33,6 +33,37 @@ pub fn then(text: &[u8], more: &[u8]) -> Vec<u8> {
     [text, more].concat()
 }
 
+/// Every text of so many of these bytes, with byte 10 after them.
+pub fn texts_over(letters: &[u8], length: u32) -> impl Iterator<Item = Vec<u8>> + '_ {
+    let count = letters.len();
+    (0..count.pow(length)).map(move |number| {
+        let digits = (0..length).map(|place| number / count.pow(place) % count);
+        digits.map(|digit| letters[digit]).chain([b'\n']).collect()
+    })
+}
+
+/// All that a change makes of these texts, at every place of them.
+pub fn at_every_place(
+    texts: &[&[u8]],
+    change: impl Fn(&[u8], usize) -> Vec<Vec<u8>>,
+) -> Vec<Vec<u8>> {
+    let places = |text: &&[u8]| 0..text.len();
+    let changes = |text| places(text).flat_map(|place| change(text, place));
+    texts.iter().flat_map(changes).collect()
+}
+
+/// A text with these bytes in the place of so many.
+pub fn spliced(text: &[u8], place: usize, taken: usize, put: &[u8]) -> Vec<u8> {
+    [&text[..place], put, &text[place + taken..]].concat()
+}
+
+/// A text with one byte taken out, and with two turned round.
+pub fn taken_out_and_turned_round(text: &[u8], place: usize) -> Vec<Vec<u8>> {
+    let mut turned = text.to_vec();
+    turned.swap(place, (place + 1).min(text.len() - 1));
+    vec![spliced(text, place, 1, &[]), turned]
+}
+
 /// The number of the last line.
 pub fn last_line(text: &[u8]) -> u64 {
     text.iter().filter(|byte| **byte == b'\n').count() as u64

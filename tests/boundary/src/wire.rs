@@ -52,6 +52,11 @@ pub fn entries_of(bytes: &[u8], width: usize) -> Vec<u64> {
     }
 }
 
+/// The lowest byte of each entry.
+pub fn bytes_of(entries: &[u64]) -> Vec<u8> {
+    entries.iter().map(|entry| *entry as u8).collect()
+}
+
 fn wide_entries<const WIDTH: usize>(bytes: &[u8]) -> Vec<u64> {
     let entry = |bytes: &[u8]| {
         let mut entry = [0; 8];

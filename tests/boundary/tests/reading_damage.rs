@@ -2,7 +2,7 @@
 
 use std::collections::BTreeSet;
 
-use boundary::texts::then;
+use boundary::texts::{at_every_place, spliced, taken_out_and_turned_round, then};
 use boundary::{Readings, NARROW};
 use oracle::generate::limit_texts::text_full_of_all;
 use oracle::generate::Random;
@@ -20,18 +20,6 @@ const SHORT: [&[u8]; 2] = [b"a ~b a\nc\n", b"~ b\n~a c\n"];
 
 /// A tab, the two that close a name, the ends of a name's bytes, those past them, the ends of all bytes, and a letter.
 const BYTES: [u8; 10] = [9, 10, 32, 33, 125, 126, 127, 0, 255, b'a'];
-
-/// All that a change makes of these texts, at every place of them.
-fn at_every_place(texts: &[&[u8]], change: impl Fn(&[u8], usize) -> Vec<Vec<u8>>) -> Vec<Vec<u8>> {
-    let places = |text: &&[u8]| 0..text.len();
-    let changes = |text| places(text).flat_map(|place| change(text, place));
-    texts.iter().flat_map(changes).collect()
-}
-
-/// A text with these bytes in the place of so many.
-fn spliced(text: &[u8], place: usize, taken: usize, put: &[u8]) -> Vec<u8> {
-    [&text[..place], put, &text[place + taken..]].concat()
-}
 
 /// Reads every text; the reasons that were met.
 fn reasons_of(case: &str, texts: &[Vec<u8>]) -> BTreeSet<u64> {
@@ -60,11 +48,7 @@ fn a_byte_put_in_at_every_place() {
 
 #[test]
 fn a_byte_taken_out_and_two_turned_round_at_every_place() {
-    let texts = at_every_place(&FORMS, |text, place| {
-        let mut turned = text.to_vec();
-        turned.swap(place, (place + 1).min(text.len() - 1));
-        vec![spliced(text, place, 1, &[]), turned]
-    });
+    let texts = at_every_place(&FORMS, taken_out_and_turned_round);
     let met = reasons_of("a byte taken out, or two turned round", &texts);
     assert_eq!(met, [NONE, TEXT_CUT, BYTE_NOT_ALLOWED, NINTH_BYTE].into());
 }

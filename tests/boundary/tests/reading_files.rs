@@ -1,6 +1,7 @@
 //! Texts of every kind that the generator knows, and every short text.
 
 use boundary::tally::share_out;
+use boundary::texts::texts_over;
 use boundary::{Readings, Tally, NARROW};
 use oracle::generate::*;
 use oracle::reasons::{BYTE_NOT_ALLOWED, NONE, NO_CLAUSE, TEXT_TOO_LONG};
@@ -39,15 +40,6 @@ fn twenty_thousand_texts_of_every_kind_are_read_as_the_independent_program_reads
     assert!(met.total() >= 20_000, "{met:?}");
     met.expect([(NONE, 10_000)]);
     met.expect((TEXT_TOO_LONG..=NO_CLAUSE).map(|reason| (reason, 100)));
-}
-
-/// Every text of so many of these bytes, with byte 10 after them.
-fn texts_over(letters: &[u8], length: u32) -> impl Iterator<Item = Vec<u8>> + '_ {
-    let count = letters.len();
-    (0..count.pow(length)).map(move |number| {
-        let digits = (0..length).map(|place| number / count.pow(place) % count);
-        digits.map(|digit| letters[digit]).chain([b'\n']).collect()
-    })
 }
 
 #[test]

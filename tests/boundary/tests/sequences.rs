@@ -1,12 +1,13 @@
-//! Readings, flip lists and walks one after the other on the same tables.
+//! Readings, flip lists, walks and whole runs one after the other on the same tables.
 
-use boundary::rubbish::rubbish;
-use boundary::{few_flips, few_steps, Sides, Tally, NARROW};
+use boundary::rubbish::rubbish_output;
+use boundary::tally::share_out;
+use boundary::{few_flips, Sides, Tally, NARROW};
 use oracle::generate::*;
 use oracle::reasons::NONE;
-use oracle::Counts;
+use oracle::sheet::read_sheet;
 
-const FILES: u64 = 120;
+const FILES: u64 = 200;
 const CALLS_ON_EACH: u64 = 25;
 
 /// What a call came to.
@@ -19,11 +20,15 @@ enum Done {
     Found,
     GaveUp,
     WalkRefused,
+    RunFound,
+    RunGaveUp,
+    RunTextRefused,
+    RunSheetRefused,
 }
 
 use Done::*;
 
-const ALL: [Done; 7] = [
+const ALL: [Done; 11] = [
     Read,
     ReadingRefused,
     Flipped,
@@ -31,6 +36,10 @@ const ALL: [Done; 7] = [
     Found,
     GaveUp,
     WalkRefused,
+    RunFound,
+    RunGaveUp,
+    RunTextRefused,
+    RunSheetRefused,
 ];
 
 fn read_some(sides: &mut Sides, kind: TextKind, random: &mut Random) -> Done {
@@ -52,45 +61,58 @@ fn flip_some(sides: &mut Sides, random: &mut Random) -> Done {
 }
 
 fn walk_some(sides: &mut Sides, random: &mut Random) -> Done {
-    let mut order = few_steps(random);
+    let mut kind = random.pick(&[OrderKind::FewFlips, OrderKind::OneFlip]);
     if random.one_in(3) {
-        order = order_of(random.pick(&OrderKind::OUT_OF_RANGE), random);
+        kind = random.pick(&OrderKind::OUT_OF_RANGE);
     }
-    match sides.walk(&order).result {
+    match sides.walk(&order_of(kind, random)).result {
         0 => WalkRefused,
         1 => Found,
         _ => GaveUp,
     }
 }
 
-/// Mostly lists and walks.
-fn call_some(sides: &mut Sides, random: &mut Random) -> Done {
-    match random.below(10) {
-        0 => read_some(sides, TextKind::Cut, random),
-        1..=2 => read_some(sides, TextKind::Valid(random.pick(&ValidKind::ALL)), random),
-        3..=5 => flip_some(sides, random),
-        _ => walk_some(sides, random),
+fn run_some(sides: &mut Sides, random: &mut Random) -> Done {
+    let kinds = [InputKind::ToWalk, InputKind::ToWalk, InputKind::Cut];
+    let input = input_of(random.pick(&kinds), &NARROW, random);
+    let printed = sides.run(&input, &mut rubbish_output(random));
+    match &printed[..12] {
+        b"result=found" => RunFound,
+        b"result=gaveu" => RunGaveUp,
+        _ if read_sheet(&input).reason == NONE => RunTextRefused,
+        _ => RunSheetRefused,
     }
 }
 
-/// Every two that can follow each other; after a refused reading no clause stands.
+/// Mostly lists, walks and runs.
+fn call_some(sides: &mut Sides, random: &mut Random) -> Done {
+    match random.below(14) {
+        0 => read_some(sides, TextKind::Cut, random),
+        1..=2 => read_some(sides, TextKind::Valid(random.pick(&ValidKind::ALL)), random),
+        3..=5 => flip_some(sides, random),
+        6..=9 => walk_some(sides, random),
+        _ => run_some(sides, random),
+    }
+}
+
+/// Every two that can follow each other; after a text was refused no clause stands.
 fn pairs() -> impl Iterator<Item = (Done, Done)> {
     let all = ALL
         .into_iter()
         .flat_map(|before| ALL.map(|after| (before, after)));
     all.filter(|(before, after)| {
-        *before != ReadingRefused || ![Flipped, Found, GaveUp].contains(after)
+        let none_stands = [ReadingRefused, RunTextRefused].contains(before);
+        !none_stands || ![Flipped, Found, GaveUp].contains(after)
     })
 }
 
-#[test]
-fn every_call_after_every_other_leaves_what_the_independent_program_leaves() {
+/// Calls on the tables of each seed; notes which call came after which.
+fn compare_files(seeds: &[u64]) -> Tally<(Done, Done)> {
     let mut sides = Sides::start();
     let mut met = Tally::default();
-    for seed in 0..FILES {
-        let random = &mut Random::new(seed);
-        let lent = (Counts::default(), rubbish(random));
-        sides.lend(format!("seed {seed}"), lent);
+    for seed in seeds {
+        let random = &mut Random::new(*seed);
+        sides.lend_rubbish(format!("seed {seed}"), random);
         let mut before = read_some(&mut sides, TextKind::Valid(ValidKind::Mixed), random);
         for _ in 0..CALLS_ON_EACH {
             let after = call_some(&mut sides, random);
@@ -98,5 +120,11 @@ fn every_call_after_every_other_leaves_what_the_independent_program_leaves() {
             before = after;
         }
     }
+    met
+}
+
+#[test]
+fn every_call_after_every_other_leaves_what_the_independent_program_leaves() {
+    let met = share_out(FILES, compare_files);
     met.expect(pairs().map(|pair| (pair, 5)));
 }

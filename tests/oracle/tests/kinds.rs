@@ -8,7 +8,9 @@ use common::*;
 use oracle::agree::agree;
 use oracle::flips::flip;
 use oracle::generate::*;
-use oracle::reasons::{NO_CLAUSE, TOO_MANY_CLAUSES, TOO_MANY_LITERALS, TOO_MANY_TERMS};
+use oracle::reasons::{
+    NO_CLAUSE, TEXT_TOO_LONG, TOO_MANY_CLAUSES, TOO_MANY_LITERALS, TOO_MANY_TERMS,
+};
 use oracle::sheet::read_sheet;
 
 #[test]
@@ -133,6 +135,63 @@ fn each_kind_of_sheet_does_what_it_says() {
         }
         if reasons == [10].into() {
             assert!(lines.len() >= 3, "{kind:?} {lines:?}");
+        }
+    }
+}
+
+/// What inputs of this kind are refused for, in the program's order of tests; 0 where they are walked on.
+fn reasons_of_inputs(kind: InputKind) -> BTreeSet<u64> {
+    let reason = |seed| {
+        let input = input_of(kind, &NARROW, &mut Random::new(seed));
+        let sheet = read_sheet(&input);
+        if input.len() > NARROW.text {
+            return TEXT_TOO_LONG;
+        }
+        match sheet.reason {
+            0 => read_narrow(&input[sheet.text_start..]).0.reason,
+            reason => reason,
+        }
+    };
+    (0..200).map(reason).collect()
+}
+
+#[test]
+fn each_kind_of_input_does_what_it_says() {
+    for kind in InputKind::ALL {
+        let (only, some): (&[u64], &[u64]) = match kind {
+            InputKind::ToWalk | InputKind::BytesAtLimit => (&[0], &[0]),
+            InputKind::FewLetters => (&[0, 3, 4, 5, 9], &[0, 3, 4, 9]),
+            InputKind::AnyText => (&[0, 2, 3, 4, 5, 6, 7, 8, 9], &[0, 3, 4, 5]),
+            InputKind::AnySheet => (&[0, 3, 4, 5, 9, 10, 11], &[0, 10, 11]),
+            InputKind::SheetAfterSheet => (&[0, 4, 5], &[0, 4, 5]),
+            InputKind::BytesPastLimit => (&[2], &[2]),
+            InputKind::ChangedBytes => (&[0, 3, 4, 5, 10, 11], &[0, 4, 10]),
+            InputKind::InsertedByte => (&[0, 3, 4, 5, 10, 11], &[0, 4, 10]),
+            InputKind::RemovedByte => (&[0, 3, 4, 5, 10, 11], &[0, 3, 10]),
+            InputKind::DoubledBytes => (&[0, 3, 4, 5, 10, 11], &[0, 5, 10, 11]),
+            InputKind::Cut => (&[0, 3, 9, 10], &[3, 10]),
+            InputKind::AnyBytes | InputKind::Empty => (&[10], &[10]),
+            InputKind::AnySheetAnyText => continue,
+        };
+        let met = reasons_of_inputs(kind);
+        assert!(
+            met.iter().all(|reason| only.contains(reason)),
+            "{kind:?} {met:?}"
+        );
+        assert!(
+            some.iter().all(|reason| met.contains(reason)),
+            "{kind:?} {met:?}"
+        );
+    }
+}
+
+#[test]
+fn no_input_asks_for_many_flips() {
+    for kind in InputKind::ALL {
+        for seed in 0..500 {
+            let input = input_of(kind, &NARROW, &mut Random::new(seed));
+            let order = read_sheet(&input).order;
+            assert!(order.flips * order.walks <= 100_000, "{kind:?} {order:?}");
         }
     }
 }

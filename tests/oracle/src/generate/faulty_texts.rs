@@ -26,22 +26,13 @@ pub fn change_bytes(text: &mut [u8], random: &mut Random) {
     }
 }
 
-pub fn changed_bytes(random: &mut Random) -> Vec<u8> {
-    let mut text = valid_text(random);
-    change_bytes(&mut text, random);
-    text
-}
-
-pub fn inserted_byte(random: &mut Random) -> Vec<u8> {
-    let mut text = valid_text(random);
+pub fn insert_byte(text: &mut Vec<u8>, random: &mut Random) {
     let place = random.between(0, text.len());
     text.insert(place, some_byte(random));
-    text
 }
 
-/// Any byte is missing, or the last one.
-pub fn removed_byte(random: &mut Random) -> Vec<u8> {
-    let mut text = valid_text(random);
+/// Takes out any byte, or the last one, of a text that has one.
+pub fn remove_byte(text: &mut Vec<u8>, random: &mut Random) {
     let last = text.len() - 1;
     let place = if random.one_in(8) {
         last
@@ -49,14 +40,42 @@ pub fn removed_byte(random: &mut Random) -> Vec<u8> {
         random.between(0, last)
     };
     text.remove(place);
+}
+
+/// Puts some bytes that stand together there twice: a few, or any number.
+pub fn double_bytes(text: &mut Vec<u8>, random: &mut Random) {
+    let start = random.below(text.len());
+    let any = random.between(1, text.len() - start);
+    let few = any.min(random.between(1, 8));
+    let end = start + random.pick(&[few, any]);
+    text.splice(end..end, text[start..end].to_vec());
+}
+
+/// A valid text, damaged.
+fn damaged(damage: fn(&mut Vec<u8>, &mut Random), random: &mut Random) -> Vec<u8> {
+    let mut text = valid_text(random);
+    damage(&mut text, random);
     text
+}
+
+pub fn changed_bytes(random: &mut Random) -> Vec<u8> {
+    damaged(|text, random| change_bytes(text, random), random)
+}
+
+pub fn inserted_byte(random: &mut Random) -> Vec<u8> {
+    damaged(insert_byte, random)
+}
+
+pub fn removed_byte(random: &mut Random) -> Vec<u8> {
+    damaged(remove_byte, random)
 }
 
 /// Cut anywhere, mostly inside a line.
 pub fn cut(random: &mut Random) -> Vec<u8> {
-    let mut text = valid_text(random);
-    text.truncate(random.below(text.len()));
-    text
+    damaged(
+        |text, random| text.truncate(random.below(text.len())),
+        random,
+    )
 }
 
 /// A name of nine bytes or more somewhere.

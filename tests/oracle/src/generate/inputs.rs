@@ -1,46 +1,65 @@
 //! Whole inputs of the run program.
 
-use super::faulty_texts::{any_bytes, change_bytes};
+use super::faulty_texts::{
+    any_bytes, change_bytes, double_bytes, few_letters, insert_byte, remove_byte,
+};
 use super::limit_texts::text_of_bytes;
 use super::orders::{order_in_range, order_of, OrderKind};
 use super::random::Random;
-use super::sheets::{good_sheet, sheet_of_order, text_may_follow, SheetKind};
+use super::sheets::{good_sheet, sheet, sheet_of_order, text_may_follow, SheetKind};
 use super::texts::clause_text_within;
 use super::valid_texts::valid_text;
 use crate::limits::Limits;
 use crate::order::Order;
+use crate::sheet::read_sheet;
 
 /// Above so many bytes a text may hold thousands of clauses.
 const LONG_TEXT: usize = 10_000;
 
-#[derive(Clone, Copy, Debug, PartialEq, Eq)]
+/// More flips together than these are not asked for by damage.
+const MOST_FLIPS: u64 = 100_000;
+
+#[derive(Clone, Copy, Debug, PartialEq, Eq, PartialOrd, Ord)]
 pub enum InputKind {
     /// A good sheet and a clause text that is accepted.
     ToWalk,
+    /// A good sheet and a few letters.
+    FewLetters,
     /// A good sheet and a clause text of any kind.
     AnyText,
     /// A sheet of any kind and a clause text that is accepted.
     AnySheet,
     /// Both of any kind.
     AnySheetAnyText,
+    /// A good sheet, then a sheet of any kind as clauses, then a clause text that is accepted.
+    SheetAfterSheet,
     /// The whole input has exactly as many bytes as it may have.
     BytesAtLimit,
     BytesPastLimit,
+    /// Good inputs that are damaged, half of them in the sheet.
     ChangedBytes,
+    InsertedByte,
+    RemovedByte,
+    DoubledBytes,
     Cut,
     AnyBytes,
     Empty,
 }
 
 impl InputKind {
-    pub const ALL: [InputKind; 10] = [
+    pub const ALL: [InputKind; 15] = [
         InputKind::ToWalk,
+        InputKind::FewLetters,
         InputKind::AnyText,
         InputKind::AnySheet,
         InputKind::AnySheetAnyText,
+        InputKind::SheetAfterSheet,
         InputKind::BytesAtLimit,
         InputKind::BytesPastLimit,
         InputKind::ChangedBytes,
+        InputKind::InsertedByte,
+        InputKind::RemovedByte,
+        InputKind::DoubledBytes,
         InputKind::Cut,
         InputKind::AnyBytes,
         InputKind::Empty,
@@ -65,12 +84,17 @@ pub fn input_within(limits: &Limits, random: &mut Random) -> Vec<u8> {
 pub fn input_of(kind: InputKind, limits: &Limits, random: &mut Random) -> Vec<u8> {
     match kind {
         InputKind::ToWalk => to_walk(random),
+        InputKind::FewLetters => after_good_sheet(few_letters(random), random),
         InputKind::AnyText => after_good_sheet(clause_text_within(limits, random), random),
         InputKind::AnySheet => after_any_sheet(valid_text(random), random),
         InputKind::AnySheetAnyText => after_any_sheet(clause_text_within(limits, random), random),
+        InputKind::SheetAfterSheet => sheet_after_sheet(random),
         InputKind::BytesAtLimit => of_bytes(limits.text, random),
         InputKind::BytesPastLimit => of_bytes(limits.text + 1, random),
-        InputKind::ChangedBytes => changed_bytes(random),
+        InputKind::ChangedBytes => damaged(|input, random| change_bytes(input, random), random),
+        InputKind::InsertedByte => damaged(insert_byte, random),
+        InputKind::RemovedByte => damaged(remove_byte, random),
+        InputKind::DoubledBytes => damaged(double_bytes, random),
         InputKind::Cut => cut(random),
         InputKind::AnyBytes => any_bytes(random),
         InputKind::Empty => Vec::new(),
@@ -117,14 +141,32 @@ fn of_bytes(bytes: usize, random: &mut Random) -> Vec<u8> {
     [sheet, text].concat()
 }
 
-fn changed_bytes(random: &mut Random) -> Vec<u8> {
+fn sheet_after_sheet(random: &mut Random) -> Vec<u8> {
+    let text = [sheet(random), valid_text(random)].concat();
+    after_good_sheet(text, random)
+}
+
+/// A good input, damaged: anywhere, or in its sheet, which is short beside the text.
+fn damaged(damage: fn(&mut Vec<u8>, &mut Random), random: &mut Random) -> Vec<u8> {
     let mut input = to_walk(random);
-    change_bytes(&mut input, random);
+    let mut kept = Vec::new();
+    if random.coin() {
+        kept = input.split_off(read_sheet(&input).text_start);
+    }
+    damage(&mut input, random);
+    input.extend(kept);
+    let order = read_sheet(&input).order;
+    if order.flips * order.walks > MOST_FLIPS {
+        return damaged(damage, random);
+    }
     input
 }
 
+/// Cut anywhere, or in the sheet.
 fn cut(random: &mut Random) -> Vec<u8> {
     let mut input = to_walk(random);
-    input.truncate(random.below(input.len()));
+    let sheet = read_sheet(&input).text_start;
+    let end = random.pick(&[sheet + 1, input.len()]);
+    input.truncate(random.below(end));
     input
 }
