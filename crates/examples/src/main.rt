@@ -73,31 +73,8 @@ fn sheet(buffer: &mut [u8]) -> usize
 
 fn show(title: &[u8], input: &[u8]) {
     io::write_all(1, title);
-    let mut names = [0u64; 2048];
-    let mut values = [0u32; 64];
-    let mut starts = [0u16; 8193];
-    let mut literals = [0u16; 16384];
-    let mut occurrence_starts = [0u16; 4097];
-    let mut occurrences = [0u16; 16384];
-    let mut trues = [0u16; 8192];
-    let mut breaks = [0u16; 2048];
-    let mut uncovered = [0u16; 8192];
-    let mut places = [0u16; 8192];
     let mut out = [0u8; 20544];
-    let n = running::run_sheet(
-        input,
-        &mut names,
-        &mut values,
-        &mut starts,
-        &mut literals,
-        &mut occurrence_starts,
-        &mut occurrences,
-        &mut trues,
-        &mut breaks,
-        &mut uncovered,
-        &mut places,
-        &mut out,
-    );
+    let n = running::run_alone(input, &mut out);
     io::write_all(1, &out[..n]);
 }
 

@@ -1,2 +1,1 @@
--- What the proof of the program's work cites; it stands beside the functions' names.
-pub mod Owned
+-- The functions' proofs stand beside their names.

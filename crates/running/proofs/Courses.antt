@@ -2,7 +2,7 @@
 use Prim.Native.Nat.{ℕ, _+_, _-_, _^_, _≤_, _<_}
 use mathlib.Core.Logic.{inl, inr}
 use mathlib.Core.Path.{_≡_, refl, ap, sym, subst, _∙_}
-use mathlib.Core.Bool.{true, false}
+use mathlib.Core.Bool.{Bool, true, false, not}
 use mathlib.Core.List.{List}
 use native.Mathlib.Omega.{arith}
 use lib.ListN.{length, take, drop}
@@ -22,6 +22,7 @@ use Rattle.written.specs.Printed.{refusal}
 use Rattle.written.specs.Program.{Ran, unbegun, unread, afterReading, afterSheet, courseOf, said, reportSize, tablesAfter, ran, runOf}
 use Rattle.laws.proofs.Sheets.{Judged, sheet-judged}
 use Rattle.laws.proofs.RunCalls.{run-short, run-ran}
+use Rattle.machine.proofs.Tests.{said-no, said-yes}
 use Rattle.reading.specs.Clearing.{blanked}
 use Rattle.reading.proofs.Cleared.{blanked-is}
 use Rattle.reports.specs.Pages.{page, put, CanPut}
@@ -37,28 +38,29 @@ module _ (lim : Limits) (input : List ℕ) (t : Tables) (b : List ℕ) (can : Ca
       rw (lt-ltb (lim .text) (length input) long) (ended-by lim t b (unread (fault LongText)) (tables ∙ blanked-is lim t (can .full)) written)
 
   -- one that is not: its sheet decides
-  after-sheet : length input ≤ lim .text → (s : Ordered) → sheetOf input ≡ s → courseOf lim input ≡ afterSheet lim input s
-  unfolding courseOf
-  after-sheet short s q = rw (le-ltb (lim .text) (length input) short) (ap (afterSheet lim input) q)
+  module _ (s : Ordered) {x : Ordered} (answer : x ≡ sheetOf input) (told : x ≡ s) where
+    after-sheet : length input ≤ lim .text → courseOf lim input ≡ afterSheet lim input s
+    unfolding courseOf
+    after-sheet short = rw (le-ltb (lim .text) (length input) short) (ap (afterSheet lim input) (sym answer ∙ told))
 
-  judged : (s : Ordered) → sheetOf input ≡ s → Judged (length input) s
-  judged s q = subst (Judged (length input)) q (sheet-judged input)
+    judged : Judged (length input) s
+    judged = subst (Judged (length input)) (sym answer ∙ told) (sheet-judged input)
 
-  module _ (e : Fault) (answer : sheetOf input ≡ Refused e) where
+  module _ (e : Fault) {x : Ordered} (answer : x ≡ sheetOf input) (told : x ≡ Refused e) where
     pub sheet-fits : lim .text + 1 < 10 ^ 20 → CanPut (refusal e) (page 0 b)
-    sheet-fits short = refusal-room lim t b can e short (omega (arith, judged (Refused e) answer .1))
+    sheet-fits short = refusal-room lim t b can e short (omega (arith, judged (Refused e) answer told .1))
 
     pub sheet-ends : length input ≤ lim .text → {r : ℕ} {out : List ℕ} → page r out ≡ put (refusal e) (page 0 b)
         → ended r t out ≡ ran lim t b (courseOf lim input)
     unfolding afterSheet said tablesAfter
-    sheet-ends short written = ended-by lim t b (unbegun e) refl written ∙ ap (ran lim t b) (sym (after-sheet short (Refused e) answer))
+    sheet-ends short written = ended-by lim t b (unbegun e) refl written ∙ ap (ran lim t b) (sym (after-sheet (Refused e) answer told short))
 
-  module _ (s : Sheet) (answer : sheetOf input ≡ Accepted s) where
+  module _ (s : Sheet) {x : Ordered} (answer : x ≡ sheetOf input) (told : x ≡ Accepted s) where
     pub text-within : s .at ≤ length input
-    text-within = judged (Accepted s) answer .1
+    text-within = judged (Accepted s) answer told .1
 
     pub sheet-reads : CanRead lim (s .order) t b
-    sheet-reads = record { run = can; range = judged (Accepted s) answer .0 }
+    sheet-reads = record { run = can; range = judged (Accepted s) answer told .0 }
 
     -- the text is lent as the part of the input from its place to the end
     pub text-ends : length input ≤ lim .text → {z : Ran}
@@ -66,15 +68,21 @@ module _ (lim : Limits) (input : List ℕ) (t : Tables) (b : List ℕ) (can : Ca
     unfolding afterSheet
     text-ends short e =
         e ∙ ap (λ (text : List ℕ). ran lim t b (afterReading (s .order) (readText lim text))) (part-to-end input (s .at))
-        ∙ ap (ran lim t b) (sym (after-sheet short (Accepted s) answer))
+        ∙ ap (ran lim t b) (sym (after-sheet (Accepted s) answer told short))
 
 -- whether a run can begin
-module _ (lim : Limits) (input : List ℕ) (t : Tables) (b : List ℕ) where
-  pub tables-short : areFull lim t ≡ false → ended 0 t b ≡ runOf lim input t b
-  tables-short h = sym (run-short lim input t b (inl h))
+module _ (lim : Limits) (t : Tables) (b : List ℕ) where
+  pub buffer-short : length b < reportSize lim → (input : List ℕ) → ended 0 t b ≡ runOf lim input t b
+  buffer-short short input = sym (run-short lim input t b (inr short))
 
-  pub buffer-short : length b < reportSize lim → ended 0 t b ≡ runOf lim input t b
-  buffer-short h = sym (run-short lim input t b (inr h))
+  -- r was answered to whether the tables are full
+  module _ {r : Bool} (asked : r ≡ areFull lim t) where
+    pub tables-short : not r ≡ true → (input : List ℕ) → ended 0 t b ≡ runOf lim input t b
+    tables-short short input = sym (run-short lim input t b (inl (said-no short asked)))
 
-  pub run-ends : areFull lim t ≡ true → reportSize lim ≤ length b → {z : Ran} → z ≡ ran lim t b (courseOf lim input) → z ≡ runOf lim input t b
-  run-ends full h e = e ∙ sym (run-ran lim input t b full h)
+    module _ (yes : not r ≡ false) (room : reportSize lim ≤ length b) where
+      pub can-run : CanRun lim t b
+      can-run = record { full = said-yes yes asked; room = room }
+
+      pub run-ends : (input : List ℕ) {z : Ran} → z ≡ ran lim t b (courseOf lim input) → z ≡ runOf lim input t b
+      run-ends input e = e ∙ sym (run-ran lim input t b (said-yes yes asked) room)

@@ -11,6 +11,7 @@ use Rattle.written.specs.declared.Counts.{Counts}
 use Rattle.written.specs.declared.Order.{Order}
 use Rattle.written.specs.declared.Fault.{Fault}
 use Rattle.written.specs.declared.Reason.the-variants.{LongText}
+use Rattle.written.specs.declared.Read.{Read}
 use Rattle.written.specs.declared.Read.the-variants as R
 use Rattle.written.specs.Limits.{Limits}
 use Rattle.written.specs.Reasons.{fault}
@@ -48,9 +49,9 @@ refused-line lim text e q =
     by-lt (lim .text) (length text) (λ l. omega (arith, ap lineIn (sym q ∙ long-text lim text l))) (λ s. omega (arith, refusal-line-bound lim text e q))
 
 module _ (lim : Limits) (o : Order) (text : List ℕ) (t : Tables) (b : List ℕ) (can : CanRead lim o t b) where
-  module _ (e : Fault) (answer : readingOf lim text t .answer ≡ R.Refused e) where
+  module _ (e : Fault) {a : Read} (answer : a ≡ readingOf lim text t .answer) (told : a ≡ R.Refused e) where
     emptied : Emptied lim text t e (readingOf lim text t .tables)
-    emptied = by-fullness (reading-refused lim text t e answer)
+    emptied = by-fullness (reading-refused lim text t e (sym answer ∙ told))
       where
         by-fullness : LeftAlone lim t e (readingOf lim text t .tables) ⊎ Emptied lim text t e (readingOf lim text t .tables) → Emptied lim text t e (readingOf lim text t .tables)
         by-fullness (inl h) = absurd (true≢false (sym (can .run .full) ∙ h .short))
@@ -64,15 +65,16 @@ module _ (lim : Limits) (o : Order) (text : List ℕ) (t : Tables) (b : List ℕ
     unfolding afterReading said tablesAfter
     refused-ends tables written = rw (emptied .read) (ended-by lim t b (afterReading o (refused e)) (tables ∙ emptied .left) written)
 
-  module _ (n : Counts) (answer : readingOf lim text t .answer ≡ R.Accepted n) {u : Tables} (tables : u ≡ readingOf lim text t .tables) where
+  module _ (n : Counts) {a : Read} (answer : a ≡ readingOf lim text t .answer) (told : a ≡ R.Accepted n) {u : Tables}
+      (tables : u ≡ readingOf lim text t .tables) where
     abbrev file : File
-    file = reading-accepted lim text t n answer .0
+    file = reading-accepted lim text t n (sym answer ∙ told) .0
 
     said-so : readText lim text ≡ accepted file
-    said-so = reading-accepted lim text t n answer .2
+    said-so = reading-accepted lim text t n (sym answer ∙ told) .2
 
     stands : Stands lim (asRead file) t n u
-    stands = subst (λ (w : Tables). Stands lim (asRead file) t n w) (sym tables) (reading-accepted lim text t n answer .3 .stands)
+    stands = subst (λ (w : Tables). Stands lim (asRead file) t n w) (sym tables) (reading-accepted lim text t n (sym answer ∙ told) .3 .stands)
 
     pub accepted-walks : CanWalk lim o n u b
     accepted-walks = record { allowed = stands-allowed lim (asRead file) t n u stands o (can .range); room = can .run .room }

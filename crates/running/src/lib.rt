@@ -7,7 +7,7 @@ ghost use Rattle.written.specs.Agreement.{fileIn};
 ghost use Rattle.written.specs.Reading.{readText};
 ghost use Rattle.written.specs.Walk.{walkOver};
 ghost use Rattle.written.specs.Program.{walked, afterReading, courseOf, ran, runOf};
-ghost use Rattle.running.specs.Running.{ended, CanRun, CanRead, CanWalk};
+ghost use Rattle.running.specs.Running.{ended, ownTables, CanRun, CanRead, CanWalk};
 use written::Counts;
 use written::Fault;
 use written::Order;
@@ -19,12 +19,12 @@ use written::Reason;
 fn walk_on(
     order: Order,
     n: Counts,
-    names: &mut [u64],
+    names: &[u64],
     values: &mut [u32],
-    starts: &mut [u16],
-    literals: &mut [u16],
-    occurrence_starts: &mut [u16],
-    occurrences: &mut [u16],
+    starts: &[u16],
+    literals: &[u16],
+    occurrence_starts: &[u16],
+    occurrences: &[u16],
     trues: &mut [u16],
     breaks: &mut [u16],
     uncovered: &mut [u16],
@@ -33,8 +33,8 @@ fn walk_on(
 ) -> usize
     requires { ⌜ CanWalk narrow order n (lent (now names) (now values) (now starts) (now literals)
         (now «occurrence_starts») (now occurrences) (now trues) (now breaks) (now uncovered) (now places)) (now out) ⌝ }
-    ensures { λ r. ⌜ ended r (lent (now (names .exit)) (now (values .exit)) (now (starts .exit)) (now (literals .exit))
-        (now («occurrence_starts» .exit)) (now (occurrences .exit)) (now (trues .exit)) (now (breaks .exit)) (now (uncovered .exit)) (now (places .exit))) (now (out .exit))
+    ensures { λ r. ⌜ ended r (lent (now (names .entry)) (now (values .exit)) (now (starts .entry)) (now (literals .entry))
+        (now («occurrence_starts» .entry)) (now (occurrences .entry)) (now (trues .exit)) (now (breaks .exit)) (now (uncovered .exit)) (now (places .exit))) (now (out .exit))
         ≡ ran narrow (lent (now (names .entry)) (now (values .entry)) (now (starts .entry)) (now (literals .entry))
         (now («occurrence_starts» .entry)) (now (occurrences .entry)) (now (trues .entry)) (now (breaks .entry)) (now (uncovered .entry)) (now (places .entry))) (now (out .entry))
         (walked (walkOver order (fileIn n (lent (now (names .entry)) (now (values .entry)) (now (starts .entry)) (now (literals .entry))
@@ -228,6 +228,37 @@ pub fn run_sheet(
         breaks,
         uncovered,
         places,
+        out,
+    )
+}
+
+// The same with tables of its own, for a program: they take 160 KB of stack.
+pub fn run_alone(input: &[u8], out: &mut [u8]) -> usize
+    ensures { λ r. ⌜ (r ≡ runOf narrow (now (input .entry)) (ownTables narrow) (now (out .entry)) .length)
+        × (now (out .exit) ≡ runOf narrow (now (input .entry)) (ownTables narrow) (now (out .entry)) .buffer) ⌝ }
+{
+    let mut names = [0u64; 2048];
+    let mut values = [0u32; 64];
+    let mut starts = [0u16; 8193];
+    let mut literals = [0u16; 16384];
+    let mut occurrence_starts = [0u16; 4097];
+    let mut occurrences = [0u16; 16384];
+    let mut trues = [0u16; 8192];
+    let mut breaks = [0u16; 2048];
+    let mut uncovered = [0u16; 8192];
+    let mut places = [0u16; 8192];
+    run_sheet(
+        input,
+        &mut names,
+        &mut values,
+        &mut starts,
+        &mut literals,
+        &mut occurrence_starts,
+        &mut occurrences,
+        &mut trues,
+        &mut breaks,
+        &mut uncovered,
+        &mut places,
         out,
     )
 }

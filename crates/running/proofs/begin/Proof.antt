@@ -1,5 +1,4 @@
 -- `running::begin` meets its contract: an input that is too long and a faulty sheet are refused; else the text is read. Assumes nothing.
-use mathlib.Core.Path.{sym, _∙_}
 use native.Mathlib.Omega.{arith}
 use borrow.Author.Needs.{needs}
 use Rattle.written.specs.Limits.{narrow}
@@ -18,29 +17,29 @@ returns c =
 refusal-requires-2 : tie.Need-refusal-requires-2
 refusal-requires-2 c κs =
     let told = c .before .before in
-    sheet-fits narrow _ _ _ (told .before .before .before .before .before .before .before .before .before .before .before .before .before .before .before .before .pre) _ (sym (told .before .before .sheet .ensures) ∙ told .e .given .1) (omega arith)
+    sheet-fits narrow _ _ _ (told .before .before .before .before .before .before .before .before .before .before .before .before .before .before .before .before .pre) _ (told .before .before .sheet .ensures) (told .e .given .1) (omega arith)
 
 returns-2 : tie.Need-returns-2
 returns-2 c =
     let said = c .before .before in
     let told = said .before .before .before in
-    sheet-ends narrow _ _ _ (told .before .before .before .before .before .before .before .before .before .before .before .before .before .before .before .before .pre) _ (sym (told .before .before .sheet .ensures) ∙ told .e .given .1) (told .before .before .before .if1 .left) (said .refusal2 .ensures)
+    sheet-ends narrow _ _ _ (told .before .before .before .before .before .before .before .before .before .before .before .before .before .before .before .before .pre) _ (told .before .before .sheet .ensures) (told .e .given .1) (told .before .before .before .if1 .left) (said .refusal2 .ensures)
 
 sub-read-on : tie.Need-sub-read-on
 sub-read-on c =
     let told = c .before .before .before in
-    text-within narrow _ _ _ (told .before .before .before .before .before .before .before .before .before .before .before .before .before .before .before .before .pre) _ (sym (told .before .before .sheet .ensures) ∙ told .s .given .1)
+    text-within narrow _ _ _ (told .before .before .before .before .before .before .before .before .before .before .before .before .before .before .before .before .pre) _ (told .before .before .sheet .ensures) (told .s .given .1)
 
 read-on-requires : tie.Need-read-on-requires
 read-on-requires c κs =
     let told = c .before .before .before .before .before .before .before .before .before .before .before .before .before .before .before in
-    sheet-reads narrow _ _ _ (told .before .before .before .before .before .before .before .before .before .before .before .before .before .before .before .before .pre) _ (sym (told .before .before .sheet .ensures) ∙ told .s .given .1)
+    sheet-reads narrow _ _ _ (told .before .before .before .before .before .before .before .before .before .before .before .before .before .before .before .before .pre) _ (told .before .before .sheet .ensures) (told .s .given .1)
 
 returns-3 : tie.Need-returns-3
 returns-3 c =
     let done = c .before .before .before .before .before .before .before .before .before .before .before .before .before .before .before .before .before .before .before .before .before .before in
     let told = done .before .before .before .before .before .before .before .before .before .before .before .before .before .before .before .before in
-    text-ends narrow _ _ _ (told .before .before .before .before .before .before .before .before .before .before .before .before .before .before .before .before .pre) _ (sym (told .before .before .sheet .ensures) ∙ told .s .given .1) (told .before .before .before .if1 .left) (done .read-on .ensures)
+    text-ends narrow _ _ _ (told .before .before .before .before .before .before .before .before .before .before .before .before .before .before .before .before .pre) _ (told .before .before .sheet .ensures) (told .s .given .1) (told .before .before .before .if1 .left) (done .read-on .ensures)
 
 pub begin-spec : {M : Type 1} → statement M
 begin-spec =

@@ -3,30 +3,29 @@ use mathlib.Core.Path.{refl}
 use borrow.Author.Needs.{needs}
 use Rattle.written.specs.Limits.{narrow}
 use Rattle.written.specs.Program.{reportSize}
-use Rattle.machine.proofs.Tests.{said-no, said-yes}
-use Rattle.running.proofs.Courses.{tables-short, buffer-short, run-ends}
+use Rattle.running.proofs.Courses.{tables-short, buffer-short, can-run, run-ends}
 use Rattle.running.proofs.run_sheet.Statement.{statement}
 use Rattle.running.proofs.run_sheet.Tie as tie
 
 returns : tie.Need-returns
-returns c = tables-short narrow _ _ _ (said-no (c .if1 .taken) (c .before .are-full .ensures))
+returns c = tables-short narrow _ _ (c .before .are-full .ensures) (c .if1 .taken) _
 
 returns-2 : tie.Need-returns-2
 unfolding reportSize
-returns-2 c = buffer-short narrow _ _ _ (c .if2 .taken)
+returns-2 c = buffer-short narrow _ _ (c .if2 .taken) _
 
 begin-requires : tie.Need-begin-requires
 unfolding reportSize
 begin-requires c κs =
     let test = c .before .before .before .before .before .before .before .before .before .before .before in
-    record { full = said-yes (test .before .if1 .left) (test .before .before .are-full .ensures); room = test .if2 .left }
+    can-run narrow _ _ (test .before .before .are-full .ensures) (test .before .if1 .left) (test .if2 .left)
 
 returns-3 : tie.Need-returns-3
 unfolding reportSize
 returns-3 c =
     let done = c .before .before .before .before .before .before .before .before .before .before .before .before .before .before .before .before .before .before .before .before .before .before in
     let test = done .before .before .before .before .before .before .before .before .before .before .before .before in
-    run-ends narrow _ _ _ (said-yes (test .before .if1 .left) (test .before .before .are-full .ensures)) (test .if2 .left) (done .begin .ensures)
+    run-ends narrow _ _ (test .before .before .are-full .ensures) (test .before .if1 .left) (test .if2 .left) _ (done .begin .ensures)
 
 pub run-sheet-spec : {M : Type 1} → statement M
 run-sheet-spec =
