@@ -14,7 +14,7 @@ use Rattle.reports.specs.Pages.{page, put, CanPut}
 use Rattle.running.specs.Running.{ended, CanRun}
 
 -- bytes put first into a buffer
-front : (bs b : List ℕ) → put bs (page 0 b) ≡ page (length bs) (over bs b)
+pub front : (bs b : List ℕ) → put bs (page 0 b) ≡ page (length bs) (over bs b)
 unfolding put
 front bs b = let none : 0 + length bs ≡ length bs = omega arith in ap (λ (n : ℕ). page n (bs ++ drop n b)) none
 

@@ -3,3 +3,4 @@ pub mod Ends
 pub mod Walking
 pub mod Readings
 pub mod Courses
+pub mod Alone

@@ -8,18 +8,13 @@ use Rattle.written.specs.declared.Counts.{Counts}
 use Rattle.written.specs.declared.Order.{Order}
 use Rattle.written.specs.Limits.{Limits}
 use Rattle.written.specs.Orders.{inRange}
-use Rattle.written.specs.Lists.{zeros}
-use Rattle.written.specs.Tables.{Tables, each, fullSizes, areFull}
+use Rattle.written.specs.Tables.{Tables, areFull}
 use Rattle.written.specs.Program.{Ran, reportSize}
 use Rattle.laws.specs.WalkCalls.{Allowed}
 
 -- the length written, the tables and the buffer
 abbrev pub ended : ℕ → Tables → List ℕ → Ran
 ended n t b = record { length = n; tables = t; buffer = b }
-
--- tables of the full sizes in which nothing stands
-unfoldable pub ownTables : Limits → Tables
-ownTables lim = each (λ n m. zeros n) (fullSizes lim) (fullSizes lim)
 
 -- full tables, and room for any report
 pub record CanRun (lim : Limits) (t : Tables) (b : List ℕ) : Type 0 where

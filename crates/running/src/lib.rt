@@ -1,13 +1,16 @@
 // The program's whole work on lent memory: an order sheet and clause text in, the result lines out.
 // A function that asks something of its tables or of the buffer does so by one record, which its caller proves; `run_sheet` asks nothing.
 ghost use mathlib.Core.Path.{_≡_};
+ghost use Prim.Native.Nat.{_≤_};
+ghost use lib.ListN.{length};
 ghost use Rattle.written.specs.Limits.{narrow};
 ghost use Rattle.written.specs.Tables.{lent};
 ghost use Rattle.written.specs.Agreement.{fileIn};
 ghost use Rattle.written.specs.Reading.{readText};
 ghost use Rattle.written.specs.Walk.{walkOver};
-ghost use Rattle.written.specs.Program.{walked, afterReading, courseOf, ran, runOf};
-ghost use Rattle.running.specs.Running.{ended, ownTables, CanRun, CanRead, CanWalk};
+ghost use Rattle.written.specs.Program.{walked, afterReading, courseOf, ran, runOf, printed, reportSize};
+ghost use Rattle.reports.specs.Pages.{page, put};
+ghost use Rattle.running.specs.Running.{ended, CanRun, CanRead, CanWalk};
 use written::Counts;
 use written::Fault;
 use written::Order;
@@ -232,10 +235,10 @@ pub fn run_sheet(
     )
 }
 
-// The same with tables of its own, for a program: they take 160 KB of stack.
+// The same with tables of its own, for a program: they take 160 KB of stack. What is printed stands first in `out`.
 pub fn run_alone(input: &[u8], out: &mut [u8]) -> usize
-    ensures { λ r. ⌜ (r ≡ runOf narrow (now (input .entry)) (ownTables narrow) (now (out .entry)) .length)
-        × (now (out .exit) ≡ runOf narrow (now (input .entry)) (ownTables narrow) (now (out .entry)) .buffer) ⌝ }
+    requires { ⌜ reportSize narrow ≤ length (now out) ⌝ }
+    ensures { λ r. ⌜ page r (now (out .exit)) ≡ put (printed narrow (now (input .entry))) (page 0 (now (out .entry))) ⌝ }
 {
     let mut names = [0u64; 2048];
     let mut values = [0u32; 64];

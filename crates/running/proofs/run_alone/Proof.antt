@@ -1,18 +1,18 @@
--- `running::run_alone` meets its contract: it is `run_sheet` on tables of 0. Assumes nothing.
-use mathlib.Core.Path.{ap}
+-- `running::run_alone` meets its contract: its tables are full, so the run begins. Assumes nothing.
+use mathlib.Core.Path.{refl}
 use borrow.Author.Needs.{needs}
 use Rattle.words.specs.Words.{wordCount}
-use Rattle.written.specs.Tables.{each, fullSizes, sizes}
-use Rattle.written.specs.Program.{Ran}
-use Rattle.running.specs.Running.{ownTables}
+use Rattle.written.specs.Limits.{narrow}
+use Rattle.written.specs.Tables.{areFull, every, each, fullSizes, sizes}
+use Rattle.running.proofs.Alone.{alone-ends}
 use Rattle.running.proofs.run_alone.Statement.{statement}
 use Rattle.running.proofs.run_alone.Tie as tie
 
 returns : tie.Need-returns
-unfolding ownTables each fullSizes sizes wordCount
+unfolding areFull every each fullSizes sizes wordCount
 returns c =
-    let e = c .before .before .before .before .before .before .before .before .before .before .before .before .run-sheet .ensures in
-    (ap (λ (x : Ran). x .length) e, ap (λ (x : Ran). x .buffer) e)
+    let call = c .before .before .before .before .before .before .before .before .before .before .before .before in
+    alone-ends narrow _ _ (search needs) _ refl (call .run-sheet .ensures)
 
 pub run-alone-spec : {M : Type 1} → statement M
 run-alone-spec =
