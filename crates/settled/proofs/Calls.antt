@@ -1,0 +1,61 @@
+-- The statements of the calls on lent tables, of the order sheet and of the exports. Assumes nothing.
+use mathlib.Core.Path.{_≡_, refl, ap}
+use Rattle.settled.specs.Outcomes.{Public}
+use Rattle.settled.proofs.Facts.{meet, same, both, ten, five}
+use Rattle.written.specs.Program.{Ran}
+use Rattle.judging.proofs.are_full as are-full
+use Rattle.judging.proofs.agrees as agrees
+use Rattle.reading.proofs.read as read
+use Rattle.lists.proofs.apply as apply
+use Rattle.walks.proofs.walk as walk
+use Rattle.sheets.proofs.sheet as sheet
+use Rattle.running.proofs.run_sheet as run-sheet
+use Rattle.ngiyarumba.proofs.draws.ngi_draw as ngi-draw
+use Rattle.ngiyarumba.proofs.draws.ngi_choice as ngi-choice
+use Rattle.ngiyarumba.proofs.draws.ngi_heads as ngi-heads
+use Rattle.ngiyarumba.proofs.read.ngi_read as ngi-read
+use Rattle.ngiyarumba.proofs.walk.ngi_walk as ngi-walk
+use Rattle.ngiyarumba.proofs.flip.ngi_flip as ngi-flip
+use Rattle.ngiyarumba.proofs.run.ngi_run as ngi-run
+
+pub are-full-settled : Public are-full.ended (λ M. are-full.clauses)
+are-full-settled M 𝓤 H A mem run κs a g = record { asks-nothing = refl; one-outcome = λ x y. both 𝓤 (λ p q. same (meet p q) refl) }
+
+pub agrees-settled : Public agrees.ended (λ M. agrees.clauses)
+agrees-settled M 𝓤 H A mem run κs a g = record { asks-nothing = refl; one-outcome = λ x y. both 𝓤 (λ p q. same (meet p q) refl) }
+
+pub read-settled : Public read.ended (λ M. read.clauses)
+read-settled M 𝓤 H A mem run κs a g = record { asks-nothing = refl; one-outcome = λ x y. both 𝓤 (λ p q. same (meet (p .0) (q .0)) (ap (λ t. (tt, ten t tt)) (meet (p .1) (q .1)))) }
+
+pub apply-settled : Public apply.ended (λ M. apply.clauses)
+apply-settled M 𝓤 H A mem run κs a g = record { asks-nothing = refl; one-outcome = λ x y. both 𝓤 (λ p q. same (meet (p .0) (q .0)) (ap (λ t. (tt, (tt, five t tt))) (meet (p .1) (q .1)))) }
+
+pub walk-settled : Public walk.ended (λ M. walk.clauses)
+walk-settled M 𝓤 H A mem run κs a g = record { asks-nothing = refl; one-outcome = λ x y. both 𝓤 (λ p q. same (meet (p .0) (q .0)) (ap (λ t. (tt, (tt, five t tt))) (meet (p .1) (q .1)))) }
+
+pub sheet-settled : Public sheet.ended (λ M. sheet.clauses)
+sheet-settled M 𝓤 H A mem run κs a g = record { asks-nothing = refl; one-outcome = λ x y. both 𝓤 (λ p q. same (meet p q) refl) }
+
+pub run-sheet-settled : Public run-sheet.ended (λ M. run-sheet.clauses)
+run-sheet-settled M 𝓤 H A mem run κs a g = record { asks-nothing = refl; one-outcome = λ x y. both 𝓤 (λ p q. let e = meet p q in same (ap (λ r. r .length) e) (ap (λ (r : Ran). (tt, ten (r .tables) (r .buffer, tt))) e)) }
+
+pub ngi-draw-settled : Public ngi-draw.ended (λ M. ngi-draw.clauses)
+ngi-draw-settled M 𝓤 H A mem run κs a g = record { asks-nothing = refl; one-outcome = λ x y. both 𝓤 (λ p q. same (meet p q) refl) }
+
+pub ngi-choice-settled : Public ngi-choice.ended (λ M. ngi-choice.clauses)
+ngi-choice-settled M 𝓤 H A mem run κs a g = record { asks-nothing = refl; one-outcome = λ x y. both 𝓤 (λ p q. same (meet p q) refl) }
+
+pub ngi-heads-settled : Public ngi-heads.ended (λ M. ngi-heads.clauses)
+ngi-heads-settled M 𝓤 H A mem run κs a g = record { asks-nothing = refl; one-outcome = λ x y. both 𝓤 (λ p q. same (meet p q) refl) }
+
+pub ngi-read-settled : Public ngi-read.ended (λ M. ngi-read.clauses)
+ngi-read-settled M 𝓤 H A mem run κs a g = record { asks-nothing = refl; one-outcome = λ x y. both 𝓤 (λ p q. same (meet (p .0) (q .0)) (ap (λ t. (tt, ten t tt)) (meet (p .1) (q .1)))) }
+
+pub ngi-walk-settled : Public ngi-walk.ended (λ M. ngi-walk.clauses)
+ngi-walk-settled M 𝓤 H A mem run κs a g = record { asks-nothing = refl; one-outcome = λ x y. both 𝓤 (λ p q. same (meet (p .0) (q .0)) (ap (λ t. (tt, (tt, (tt, (tt, (tt, (tt, (tt, (tt, five t tt))))))))) (meet (p .1) (q .1)))) }
+
+pub ngi-flip-settled : Public ngi-flip.ended (λ M. ngi-flip.clauses)
+ngi-flip-settled M 𝓤 H A mem run κs a g = record { asks-nothing = refl; one-outcome = λ x y. both 𝓤 (λ p q. same (meet (p .0) (q .0)) (ap (λ t. (tt, (tt, (tt, (tt, (tt, five t tt)))))) (meet (p .1) (q .1)))) }
+
+pub ngi-run-settled : Public ngi-run.ended (λ M. ngi-run.clauses)
+ngi-run-settled M 𝓤 H A mem run κs a g = record { asks-nothing = refl; one-outcome = λ x y. both 𝓤 (λ p q. let e = meet p q in same (ap (λ r. r .length) e) (ap (λ (r : Ran). (tt, ten (r .tables) (r .buffer, tt))) e)) }

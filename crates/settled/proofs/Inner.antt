@@ -1,0 +1,88 @@
+-- The statements of what one crate lends to another. Assumes nothing.
+use mathlib.Core.Path.{_≡_, refl, ap}
+use Rattle.machine.specs.Uncovered.{Uncovered}
+use Rattle.machine.specs.Tallies.{Tallies}
+use Rattle.machine.specs.Moving.{Moving}
+use Rattle.reports.specs.Pages.{Page}
+use Rattle.settled.specs.Outcomes.{Public, Inner}
+use Rattle.settled.proofs.Facts.{meet, same, both, all-three, ten, five}
+use Rattle.tables.proofs.true_count as true-count
+use Rattle.tables.proofs.one_for as one-for
+use Rattle.tables.proofs.clear as clear
+use Rattle.tables.proofs.clear_words as clear-words
+use Rattle.tables.proofs.clear_names as clear-names
+use Rattle.tables.proofs.raise as raise
+use Rattle.tables.proofs.enter as enter
+use Rattle.tables.proofs.turn_round as turn-round
+use Rattle.tables.proofs.open_all as open-all
+use Rattle.tables.proofs.close_all as close-all
+use Rattle.tables.proofs.count_afresh as count-afresh
+use Rattle.names.proofs.add as add
+use Rattle.flips.proofs.flip_term as flip-term
+use Rattle.flips.proofs.flip_all as flip-all
+use Rattle.choosing.proofs.chosen_from as chosen-from
+use Rattle.walks.proofs.walk_tested as walk-tested
+use Rattle.reading.proofs.clear_all as clear-all
+use Rattle.reports.proofs.refusal as refusal
+use Rattle.reports.proofs.report as report
+use Rattle.running.proofs.run_alone as run-alone
+
+pub true-count-settled : Public true-count.ended (λ M. true-count.clauses)
+true-count-settled M 𝓤 H A mem run κs a g = record { asks-nothing = refl; one-outcome = λ x y. both 𝓤 (λ p q. same (meet p q) refl) }
+
+pub one-for-settled : Public one-for.ended (λ M. one-for.clauses)
+one-for-settled M 𝓤 H A mem run κs a g = record { asks-nothing = refl; one-outcome = λ x y. both 𝓤 (λ p q. same (meet p q) refl) }
+
+pub clear-settled : Public clear.ended (λ M. clear.clauses)
+clear-settled M 𝓤 H A mem run κs a g = record { asks-nothing = refl; one-outcome = λ x y. both 𝓤 (λ p q. same refl (ap (λ xs. (xs, (tt, tt))) (meet p q))) }
+
+pub clear-words-settled : Public clear-words.ended (λ M. clear-words.clauses)
+clear-words-settled M 𝓤 H A mem run κs a g = record { asks-nothing = refl; one-outcome = λ x y. both 𝓤 (λ p q. same refl (ap (λ xs. (xs, (tt, tt))) (meet p q))) }
+
+pub clear-names-settled : Public clear-names.ended (λ M. clear-names.clauses)
+clear-names-settled M 𝓤 H A mem run κs a g = record { asks-nothing = refl; one-outcome = λ x y. both 𝓤 (λ p q. same refl (ap (λ xs. (xs, (tt, tt))) (meet p q))) }
+
+pub raise-settled : Inner raise.ended (λ M. raise.clauses)
+raise-settled M 𝓤 H A mem run κs a g = record { one-outcome = λ x y. all-three 𝓤 (λ r p q. same refl (ap (λ xs. (xs, (tt, tt))) (meet p q))) }
+
+pub enter-settled : Inner enter.ended (λ M. enter.clauses)
+enter-settled M 𝓤 H A mem run κs a g = record { one-outcome = λ x y. all-three 𝓤 (λ r p q. let e = meet p q in same (ap (λ u. u .number) e) (ap (λ (u : Uncovered). (u .list, (u .places, (tt, (tt, tt))))) e)) }
+
+pub turn-round-settled : Inner turn-round.ended (λ M. turn-round.clauses)
+turn-round-settled M 𝓤 H A mem run κs a g = record { one-outcome = λ x y. all-three 𝓤 (λ r p q. same refl (λ i. (tt, (tt, (tt, (meet (p .0) (q .0) i, (meet (p .1) (q .1) i, (meet (p .2) (q .2) i, tt)))))))) }
+
+pub open-all-settled : Inner open-all.ended (λ M. open-all.clauses)
+open-all-settled M 𝓤 H A mem run κs a g = record { one-outcome = λ x y. all-three 𝓤 (λ r p q. same refl (ap (λ xs. (tt, (tt, (tt, (tt, (tt, (xs, tt))))))) (meet p q))) }
+
+pub close-all-settled : Inner close-all.ended (λ M. close-all.clauses)
+close-all-settled M 𝓤 H A mem run κs a g = record { one-outcome = λ x y. all-three 𝓤 (λ r p q. same refl (ap (λ xs. (tt, (tt, (xs, tt)))) (meet p q))) }
+
+pub count-afresh-settled : Inner count-afresh.ended (λ M. count-afresh.clauses)
+count-afresh-settled M 𝓤 H A mem run κs a g = record { one-outcome = λ x y. all-three 𝓤 (λ r p q. let e = meet p q in same (ap (λ t. t .uncovered .number) e) (ap (λ (t : Tallies). (tt, (tt, (tt, (tt, (tt, (t .trues, (t .breaks, (t .uncovered .list, (t .uncovered .places, tt)))))))))) e)) }
+
+pub add-settled : Inner add.ended (λ M. add.clauses)
+add-settled M 𝓤 H A mem run κs a g = record { one-outcome = λ x y. all-three 𝓤 (λ r p q. same refl (λ i. (meet (p .0) (q .0) i, (meet (p .1) (q .1) i, (tt, (tt, (tt, tt))))))) }
+
+pub flip-term-settled : Inner flip-term.ended (λ M. flip-term.clauses)
+flip-term-settled M 𝓤 H A mem run κs a g = record { one-outcome = λ x y. all-three 𝓤 (λ r p q. let e = meet p q in same (ap (λ m. m .tallies .uncovered .number) e) (ap (λ (m : Moving). (m .words, (tt, (tt, (m .tallies .trues, (m .tallies .breaks, (m .tallies .uncovered .list, (m .tallies .uncovered .places, (tt, (tt, tt)))))))))) e)) }
+
+pub flip-all-settled : Inner flip-all.ended (λ M. flip-all.clauses)
+flip-all-settled M 𝓤 H A mem run κs a g = record { one-outcome = λ x y. all-three 𝓤 (λ r p q. let e = meet p q in same (ap (λ m. m .tallies .uncovered .number) e) (ap (λ (m : Moving). (tt, (m .words, (tt, (tt, (m .tallies .trues, (m .tallies .breaks, (m .tallies .uncovered .list, (m .tallies .uncovered .places, (tt, tt)))))))))) e)) }
+
+pub chosen-from-settled : Inner chosen-from.ended (λ M. chosen-from.clauses)
+chosen-from-settled M 𝓤 H A mem run κs a g = record { one-outcome = λ x y. all-three 𝓤 (λ r p q. let e = meet p q in same (λ i. record { entry = e i .picked; next = record { state = e i .state } }) refl) }
+
+pub walk-tested-settled : Inner walk-tested.ended (λ M. walk-tested.clauses)
+walk-tested-settled M 𝓤 H A mem run κs a g = record { one-outcome = λ x y. all-three 𝓤 (λ r p q. same (meet (p .0) (q .0)) (ap (λ t. (tt, (tt, five t tt))) (meet (p .1) (q .1)))) }
+
+pub clear-all-settled : Public clear-all.ended (λ M. clear-all.clauses)
+clear-all-settled M 𝓤 H A mem run κs a g = record { asks-nothing = refl; one-outcome = λ x y. both 𝓤 (λ p q. same refl (ap (λ t. ten t tt) (meet p q))) }
+
+pub refusal-settled : Inner refusal.ended (λ M. refusal.clauses)
+refusal-settled M 𝓤 H A mem run κs a g = record { one-outcome = λ x y. all-three 𝓤 (λ r p q. let e = meet p q in same (ap (λ s. s .at) e) (ap (λ (s : Page). (s .buffer, (tt, tt))) e)) }
+
+pub report-settled : Inner report.ended (λ M. report.clauses)
+report-settled M 𝓤 H A mem run κs a g = record { one-outcome = λ x y. all-three 𝓤 (λ r p q. let e = meet p q in same (ap (λ s. s .at) e) (ap (λ (s : Page). (s .buffer, (tt, (tt, (tt, tt))))) e)) }
+
+pub run-alone-settled : Inner run-alone.ended (λ M. run-alone.clauses)
+run-alone-settled M 𝓤 H A mem run κs a g = record { one-outcome = λ x y. all-three 𝓤 (λ r p q. let e = meet p q in same (ap (λ s. s .at) e) (ap (λ (s : Page). (tt, (s .buffer, tt))) e)) }

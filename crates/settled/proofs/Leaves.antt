@@ -1,0 +1,100 @@
+-- The statements of `draw`, `words`, `scan`, `reader` and `reasons`. Assumes nothing.
+use mathlib.Core.Path.{_≡_, refl, ap}
+use Rattle.settled.specs.Outcomes.{Public}
+use Rattle.settled.proofs.Facts.{meet, same, both}
+use Rattle.draw.proofs.stepped as stepped
+use Rattle.draw.proofs.Generator.new as generator-new
+use Rattle.draw.proofs.Generator.drawn as drawn
+use Rattle.draw.proofs.Generator.choice as choice
+use Rattle.draw.proofs.Generator.heads as heads
+use Rattle.draw.proofs.draw as draw
+use Rattle.draw.proofs.draw_from as draw-from
+use Rattle.words.proofs.value as value
+use Rattle.words.proofs.turn as turn
+use Rattle.words.proofs.put as put
+use Rattle.words.proofs.chosen as chosen
+use Rattle.words.proofs.fill as fill
+use Rattle.scan.proofs.Cursor.first as first
+use Rattle.scan.proofs.Cursor.next as next
+use Rattle.scan.proofs.Cursor.pass as pass
+use Rattle.scan.proofs.scan_at as scan-at
+use Rattle.scan.proofs.cut_off as cut-off
+use Rattle.scan.proofs.line_end as line-end
+use Rattle.reader.proofs.new as reader-new
+use Rattle.reader.proofs.next as reader-next
+use Rattle.reader.proofs.pass as reader-pass
+use Rattle.reader.proofs.take as reader-take
+use Rattle.reader.proofs.token_at as token-at
+use Rattle.reasons.proofs.number_of as number-of
+
+pub stepped-settled : Public stepped.ended (λ M. stepped.clauses)
+stepped-settled M 𝓤 H A mem run κs a g = record { asks-nothing = refl; one-outcome = λ x y. both 𝓤 (λ p q. same (meet p q) refl) }
+
+pub generator-new-settled : Public generator-new.ended (λ M. generator-new.clauses)
+generator-new-settled M 𝓤 H A mem run κs a g = record { asks-nothing = refl; one-outcome = λ x y. both 𝓤 (λ p q. same (λ i. record { state = meet p q i }) refl) }
+
+pub drawn-settled : Public drawn.ended (λ M. drawn.clauses)
+drawn-settled M 𝓤 H A mem run κs a g = record { asks-nothing = refl; one-outcome = λ x y. both 𝓤 (λ p q. same (meet p q) refl) }
+
+pub choice-settled : Public choice.ended (λ M. choice.clauses)
+choice-settled M 𝓤 H A mem run κs a g = record { asks-nothing = refl; one-outcome = λ x y. both 𝓤 (λ p q. same (meet p q) refl) }
+
+pub heads-settled : Public heads.ended (λ M. heads.clauses)
+heads-settled M 𝓤 H A mem run κs a g = record { asks-nothing = refl; one-outcome = λ x y. both 𝓤 (λ p q. same (meet p q) refl) }
+
+pub draw-settled : Public draw.ended (λ M. draw.clauses)
+draw-settled M 𝓤 H A mem run κs a g = record { asks-nothing = refl; one-outcome = λ x y. both 𝓤 (λ p q. same (meet (p .0) (q .0)) (ap (λ s. (s, tt)) (meet (p .1) (q .1)))) }
+
+pub draw-from-settled : Public draw-from.ended (λ M. draw-from.clauses)
+draw-from-settled M 𝓤 H A mem run κs a g = record { asks-nothing = refl; one-outcome = λ x y. both 𝓤 (λ p q. same (meet p q) refl) }
+
+pub value-settled : Public value.ended (λ M. value.clauses)
+value-settled M 𝓤 H A mem run κs a g = record { asks-nothing = refl; one-outcome = λ x y. both 𝓤 (λ p q. same (meet p q) refl) }
+
+pub turn-settled : Public turn.ended (λ M. turn.clauses)
+turn-settled M 𝓤 H A mem run κs a g = record { asks-nothing = refl; one-outcome = λ x y. both 𝓤 (λ p q. same refl (ap (λ ws. (ws, (tt, tt))) (meet p q))) }
+
+pub put-settled : Public put.ended (λ M. put.clauses)
+put-settled M 𝓤 H A mem run κs a g = record { asks-nothing = refl; one-outcome = λ x y. both 𝓤 (λ p q. same refl (ap (λ ws. (ws, (tt, (tt, (tt, tt))))) (meet p q))) }
+
+pub chosen-settled : Public chosen.ended (λ M. chosen.clauses)
+chosen-settled M 𝓤 H A mem run κs a g = record { asks-nothing = refl; one-outcome = λ x y. both 𝓤 (λ p q. same (meet p q) refl) }
+
+pub fill-settled : Public fill.ended (λ M. fill.clauses)
+fill-settled M 𝓤 H A mem run κs a g = record { asks-nothing = refl; one-outcome = λ x y. both 𝓤 (λ p q. same (λ i. record { state = meet (p .0) (q .0) i }) (ap (λ ws. (ws, (tt, (tt, tt)))) (meet (p .1) (q .1)))) }
+
+pub first-settled : Public first.ended (λ M. first.clauses)
+first-settled M 𝓤 H A mem run κs a g = record { asks-nothing = refl; one-outcome = λ x y. both 𝓤 (λ p q. same (meet p q) refl) }
+
+pub next-settled : Public next.ended (λ M. next.clauses)
+next-settled M 𝓤 H A mem run κs a g = record { asks-nothing = refl; one-outcome = λ x y. both 𝓤 (λ p q. same (meet p q) refl) }
+
+pub pass-settled : Public pass.ended (λ M. pass.clauses)
+pass-settled M 𝓤 H A mem run κs a g = record { asks-nothing = refl; one-outcome = λ x y. both 𝓤 (λ p q. same (meet p q) refl) }
+
+pub scan-at-settled : Public scan-at.ended (λ M. scan-at.clauses)
+scan-at-settled M 𝓤 H A mem run κs a g = record { asks-nothing = refl; one-outcome = λ x y. both 𝓤 (λ p q. same (meet p q) refl) }
+
+pub cut-off-settled : Public cut-off.ended (λ M. cut-off.clauses)
+cut-off-settled M 𝓤 H A mem run κs a g = record { asks-nothing = refl; one-outcome = λ x y. both 𝓤 (λ p q. same (meet p q) refl) }
+
+pub line-end-settled : Public line-end.ended (λ M. line-end.clauses)
+line-end-settled M 𝓤 H A mem run κs a g = record { asks-nothing = refl; one-outcome = λ x y. both 𝓤 (λ p q. same (meet p q) refl) }
+
+pub reader-new-settled : Public reader-new.ended (λ M. reader-new.clauses)
+reader-new-settled M 𝓤 H A mem run κs a g = record { asks-nothing = refl; one-outcome = λ x y. both 𝓤 (λ p q. same (λ i. record { text = meet (p .0) (q .0) i; at = meet (p .1) (q .1) i; line = meet (p .2) (q .2) i }) refl) }
+
+pub reader-next-settled : Public reader-next.ended (λ M. reader-next.clauses)
+reader-next-settled M 𝓤 H A mem run κs a g = record { asks-nothing = refl; one-outcome = λ x y. both 𝓤 (λ p q. same (meet p q) refl) }
+
+pub reader-pass-settled : Public reader-pass.ended (λ M. reader-pass.clauses)
+reader-pass-settled M 𝓤 H A mem run κs a g = record { asks-nothing = refl; one-outcome = λ x y. both 𝓤 (λ p q. same (λ i. record { text = meet (p .0) (q .0) i; at = meet (p .1) (q .1) i; line = meet (p .2) (q .2) i }) refl) }
+
+pub reader-take-settled : Public reader-take.ended (λ M. reader-take.clauses)
+reader-take-settled M 𝓤 H A mem run κs a g = record { asks-nothing = refl; one-outcome = λ x y. both 𝓤 (λ p q. same (meet (p .0) (q .0)) (ap (λ r. (r, tt)) (meet (p .1) (q .1)))) }
+
+pub token-at-settled : Public token-at.ended (λ M. token-at.clauses)
+token-at-settled M 𝓤 H A mem run κs a g = record { asks-nothing = refl; one-outcome = λ x y. both 𝓤 (λ p q. same (meet p q) refl) }
+
+pub number-of-settled : Public number-of.ended (λ M. number-of.clauses)
+number-of-settled M 𝓤 H A mem run κs a g = record { asks-nothing = refl; one-outcome = λ x y. both 𝓤 (λ p q. same (meet p q) refl) }

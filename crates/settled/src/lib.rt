@@ -1,0 +1,1 @@
+// That each statement settles the outcome of a call; no code.
