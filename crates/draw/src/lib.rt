@@ -103,7 +103,7 @@ pub fn draw(g: &mut Generator) -> u32
     n
 }
 
-// The number of one draw from the seed, by a generator that is lent: whoever calls this needs no walk by hand.
+// The number of one draw from the seed, by a generator that is lent: plain parameters, so that whoever calls this is proved as any other code.
 pub fn draw_from(seed: u32) -> u32
     ensures { λ r. ⌜ r ≡ drawOf seed .number ⌝ }
 {

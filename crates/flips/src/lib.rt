@@ -224,8 +224,8 @@ pub fn flip_all(
         (moving (now (values .entry)) (tallies (now (trues .entry)) (now (breaks .entry)) (now (list .entry)) (now (places .entry)) number)) ⌝ }
 {
     let mut n = number;
-    let mut i = 0;
-    while i < terms.len() {
+    let mut k = 0;
+    while k < terms.len() {
         n = flip_term(
             values,
             occurrence_starts,
@@ -235,9 +235,9 @@ pub fn flip_all(
             list,
             places,
             n,
-            terms[i] as usize,
+            terms[k] as usize,
         );
-        i += 1;
+        k += 1;
     }
     n
 }

@@ -6,7 +6,7 @@ use mathlib.Core.Path.{_≡_, refl, ap, ap₂, sym, subst, _∙_}
 use mathlib.Core.Bool.{true, false, cond}
 use mathlib.Core.List.{List, [], _∷_, _++_}
 use native.Mathlib.Omega.{arith}
-use lib.ListN.{length, getD, drop, length-drop}
+use lib.ListN.{length, getD, drop, length-drop, List·getD-eq-default}
 use lib.Seq.{append-snoc, getD-take}
 use lib.Dec.{leb}
 use borrow.Author.Tests.{lt-ltb, le-ltb, leb-true}
@@ -23,15 +23,16 @@ use Rattle.written.specs.Reasons.{numberOf, fault}
 use Rattle.written.specs.Clauses.{File}
 use Rattle.written.specs.Reading.{Reading, accepted, refused, readText}
 use Rattle.written.specs.Walk.{Outcome, walkOver}
-use Rattle.written.specs.Orders.{seeds, flipsEach, walksAll, biases}
 use Rattle.written.specs.Sheet.{isDigit, valueOfDigits, sheetOf}
 use Rattle.written.specs.Printed.{decimal, line, refusal, report}
 use Rattle.written.specs.Program.{Course, unbegun, unread, walked, afterReading, afterSheet, courseOf, said, printed}
+use Rattle.laws.specs.Sheets.{Faulty, Says}
+use Rattle.laws.specs.Sheets.Faulty.{wrong-form, out-of-range}
 use Rattle.laws.specs.RunCalls.{Begins, Finds, GivesUp, IsRefused, Decides, Begun, textAfter, Refuses, Given}
 use Rattle.laws.specs.RunCalls.Refuses.{too-long, bad-sheet, bad-text}
 use Rattle.laws.proofs.Basics.{by-cases, by-lt, both-first, both-second}
 use Rattle.laws.proofs.Decimals.{decimal-digits, decimal-value}
-use Rattle.laws.proofs.Sheets.{judged-cases}
+use Rattle.laws.proofs.Sheets.{sheet-says}
 use Rattle.laws.proofs.ReadCalls.{reasonIn, text-2, text-to, refused-from}
 
 -- ---- the tests in their order
@@ -76,21 +77,12 @@ module _ (lim : Limits) (input : List ℕ) where
 -- ---- which reasons
 
 -- a sheet's are 10 and 11
-abbrev SheetReason : Ordered → Type 0
-SheetReason (O.Accepted s) = Unit {0}
-SheetReason (O.Refused e) = (10 ≤ numberOf (e .reason)) × (numberOf (e .reason) ≤ 11)
-
-sheet-reason : (input : List ℕ) → SheetReason (sheetOf input)
-unfolding sheetOf
-sheet-reason input =
-    let P = SheetReason in
-    judged-cases P 1 (bytes "seed=") seeds input _ (omega arith, omega arith) (omega arith, omega arith) λ s input₂ _.
-    judged-cases P 2 (bytes "flips=") flipsEach input₂ _ (omega arith, omega arith) (omega arith, omega arith) λ f input₃ _.
-    judged-cases P 3 (bytes "walks=") walksAll input₃ _ (omega arith, omega arith) (omega arith, omega arith) λ w input₄ _.
-    judged-cases P 4 (bytes "bias=") biases input₄ _ (omega arith, omega arith) (omega arith, omega arith) λ b text _. tt
+fault-reason : (k : ℕ) (input : List ℕ) (r : Reason) → Faulty k input r → (10 ≤ numberOf r) × (numberOf r ≤ 11)
+fault-reason k input _ (wrong-form h) = (omega arith, omega arith)
+fault-reason k input _ (out-of-range h l) = (omega arith, omega arith)
 
 pub sheet-reasons : (input : List ℕ) (e : Fault) → sheetOf input ≡ O.Refused e → (10 ≤ numberOf (e .reason)) × (numberOf (e .reason) ≤ 11)
-sheet-reasons input e q = subst SheetReason q (sheet-reason input)
+sheet-reasons input e q = let n = subst (Says input) q (sheet-says input) in fault-reason (n .line) input (e .reason) (n .faulty)
 
 -- a text's are 3 to 9, since no part of the input is longer than the whole
 pub text-reasons : (lim : Limits) (input : List ℕ) (s : Sheet) (e : Fault) → Begun lim input s → readText lim (textAfter s input) ≡ refused e
@@ -209,6 +201,18 @@ module _ (lim : Limits) (input : List ℕ) where
 
   not-up-refused : Prints "result=gaveup\n" → Prints "result=refused\n" → ⊥
   not-up-refused a b = omega (arith, apart "result=gaveup\n" "result=refused\n" (omega arith) (omega arith) a b)
+
+  -- what is printed is never nothing: a byte stands after `result=`
+  pub printed-some : 0 < length (printed lim input)
+  printed-some =
+      by-result (courseOf lim input) (λ e q f. some "result=found\n" (omega arith) (omega arith) (does-find (e, q, f)))
+      (λ e q f. some "result=gaveup\n" (omega arith) (omega arith) (does-give-up (e, q, f)))
+      (λ e q. some "result=refused\n" (omega arith) (omega arith) (does-refuse (e, q)))
+    where
+      some : (s : String) → 7 < length (bytes s) → 0 < mark (bytes s) → Prints s → 0 < length (printed lim input)
+      some s l m p =
+          by-lt 0 (length (printed lim input)) (λ h. h)
+          (λ h. absurd (omega (arith, m, begins-mark s (printed lim input) l p, List·getD-eq-default (printed lim input) 0 {n = 7} (omega arith))))
 
   pub run-decides : Decides lim input
   run-decides =

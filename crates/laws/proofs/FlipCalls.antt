@@ -9,7 +9,7 @@ use native.Mathlib.Omega.{arith}
 use lib.ListN.{length, getD, take, drop, length-drop}
 use lib.Seq.{ext-getD, getD-drop, getD-take}
 use lib.Dec.{ltb}
-use borrow.Author.Tests.{le-ltb, ltb-false}
+use borrow.Author.Tests.{le-ltb, lt-ltb}
 use Rattle.written.specs.declared.Counts.{Counts}
 use Rattle.written.specs.declared.Reason.{Reason}
 use Rattle.written.specs.declared.Reason.the-variants.{ShortTable, Disagreement, UnknownTerm, LongList}
@@ -18,14 +18,17 @@ use Rattle.written.specs.declared.Flipped.{Flipped}
 use Rattle.written.specs.declared.Flipped.the-variants as F
 use Rattle.written.specs.Lists.{all, total, has, times}
 use Rattle.written.specs.Limits.{Limits}
+use Rattle.written.specs.Reasons.{numberOf}
 use Rattle.written.specs.Clauses.{File, State, afresh}
 use Rattle.written.specs.Reading.{accepted, readText}
 use Rattle.written.specs.Flips.{flipped}
 use Rattle.written.specs.Tables.{Tables, each, sizes, areFull, inUse, tablesOf, placeIn, countsOf, holding}
 use Rattle.written.specs.Agreement.{stateIn, agree}
-use Rattle.written.specs.Outcomes.{Leaves, flipsRefused, flipsLeave, flipsOf}
+use Rattle.written.specs.Outcomes.{Leaves, flipsRefused, flipsLeave, flipsOf, flipValues}
 use Rattle.laws.specs.Valid.{Bits, Valid}
 use Rattle.laws.specs.Calls.{Stands}
+use Rattle.laws.specs.FlipCalls.{Fails, reasonGiven, Given, Refused}
+use Rattle.laws.specs.FlipCalls.Fails.{short, long, disagree, unknown}
 use Rattle.laws.specs.Demands.{SameButOrder, AfterFlips, Acceptable, SameButList, Accepted}
 use Rattle.laws.proofs.Basics.{by-cases, by-lt}
 use Rattle.laws.proofs.Lists.{getD-listOf}
@@ -113,19 +116,30 @@ abbrev countsIn : Flipped → Counts
 countsIn (F.Applied m) = m
 countsIn (F.Refused e) = e .counts
 
+abbrev refusalIn : Flipped → Refusal
+refusalIn (F.Applied m) = record { reason = ShortTable; counts = m }
+refusalIn (F.Refused e) = e
+
 module _ (lim : Limits) (ts : List ℕ) (n : Counts) (t : Tables) where
-  -- all tests are passed, or one refuses
-  tests : {A : Type 0} → (Acceptable lim ts n t → A) → ((r : Reason) → flipsOf lim ts n t ≡ flipsRefused n t r → A) → A
-  unfolding flipsOf
-  tests pass refuse =
+  -- all tests are passed, or one fails
+  tests : {A : Type 0} → (Acceptable lim ts n t → A) → ((r : Reason) → Fails lim ts n t r → A) → A
+  tests pass fail =
       by-cases (areFull lim t)
-      (λ a. by-cases (ltb (lim .list) (length ts)) (λ b. refuse LongList (rw (a, b) refl))
+      (λ a. by-lt (lim .list) (length ts) (λ b. fail _ (long a b))
       (λ b. by-cases (agree lim n t)
-      (λ d. by-cases (all (λ v. ltb v (n .terms)) ts)
-      (λ e. pass (record { full = a; short = ltb-false (lim .list) (length ts) b; agrees = d; known = e }))
-      (λ e. refuse UnknownTerm (rw (a, b, d, e) refl)))
-      (λ d. refuse Disagreement (rw (a, b, d) refl))))
-      (λ a. refuse ShortTable (rw a refl))
+      (λ d. by-cases (all (λ v. ltb v (n .terms)) ts) (λ e. pass (record { full = a; short = b; agrees = d; known = e })) (λ e. fail _ (unknown a b d e)))
+      (λ d. fail _ (disagree a b d))))
+      (λ a. fail _ (short a))
+
+  failed : (r : Reason) → Fails lim ts n t r → flipsOf lim ts n t ≡ flipsRefused n t r
+  unfolding flipsOf
+  failed _ (short a) = rw a refl
+  failed _ (long a b) = rw (a, lt-ltb (lim .list) (length ts) b) refl
+  failed _ (disagree a b d) = rw (a, le-ltb (lim .list) (length ts) b, d) refl
+  failed _ (unknown a b d e) = rw (a, le-ltb (lim .list) (length ts) b, d, e) refl
+
+  refused-answer : (r : Reason) → Fails lim ts n t r → flipsOf lim ts n t .answer ≡ F.Refused (record { reason = r; counts = n })
+  refused-answer r f = ap (λ (l : Leaves Flipped). l .answer) (failed r f)
 
   passed : Acceptable lim ts n t → flipsOf lim ts n t ≡ flipsLeave lim t (flipped ts (stateIn n t))
   unfolding flipsOf
@@ -159,17 +173,70 @@ module _ (lim : Limits) (ts : List ℕ) (n : Counts) (t : Tables) where
   accepted-exactly = (λ a. was-acceptable (a .0) (a .1), λ h. (countsOf (flipped ts (stateIn n t)), applied h))
     where
       was-acceptable : (m : Counts) → flipsOf lim ts n t .answer ≡ F.Applied m → Acceptable lim ts n t
-      was-acceptable m e = tests (λ h. h) (λ r f. absurd (false≢true (ap (λ (l : Leaves Flipped). isApplied (l .answer)) (sym f) ∙ ap isApplied e)))
+      was-acceptable m e = tests (λ h. h) (λ r f. absurd (false≢true (ap isApplied (sym (refused-answer r f) ∙ e))))
 
   -- a refused list leaves all as it was
-  pub flips-refused : (e : Refusal) → flipsOf lim ts n t .answer ≡ F.Refused e → (flipsOf lim ts n t .tables ≡ t) × (e .counts ≡ n)
+  pub flips-refused : (e : Refusal) → flipsOf lim ts n t .answer ≡ F.Refused e → Refused lim ts n t e (flipsOf lim ts n t .tables)
   flips-refused e q =
       tests (λ h. absurd (true≢false (ap isApplied (sym (applied h) ∙ q))))
-      (λ r f. (ap (λ (l : Leaves Flipped). l .tables) f, ap countsIn (sym q) ∙ ap (λ (l : Leaves Flipped). countsIn (l .answer)) f))
+      (λ r f.
+      let same = ap refusalIn (sym (refused-answer r f) ∙ q) in
+      record {
+        fails = subst (λ (x : Refusal). Fails lim ts n t (x .reason)) same f;
+        left = ap (λ (l : Leaves Flipped). l .tables) (failed r f);
+        counts = ap (λ (x : Refusal). x .counts) (sym same);
+        values = ap (λ (m : Counts). flipValues (F.Refused (record { reason = e .reason; counts = m }))) (ap (λ (x : Refusal). x .counts) (sym same));
+      })
 
   -- every list is applied or refused
   pub flips-either : ((m : Counts) × (flipsOf lim ts n t .answer ≡ F.Applied m)) ⊎ ((e : Refusal) × (flipsOf lim ts n t .answer ≡ F.Refused e))
-  flips-either = tests (λ h. inl (countsOf (flipped ts (stateIn n t)), applied h)) (λ r f. inr (record { reason = r; counts = n }, ap (λ (l : Leaves Flipped). l .answer) f))
+  flips-either = tests (λ h. inl (countsOf (flipped ts (stateIn n t)), applied h)) (λ r f. inr (record { reason = r; counts = n }, refused-answer r f))
+
+  -- which reason is given
+
+  failed-reason : (r : Reason) → Fails lim ts n t r → reasonGiven lim ts n t ≡ numberOf r
+  failed-reason r f = ap (λ (a : Flipped). flipValues a .reason) (refused-answer r f)
+
+  passed-reason : Acceptable lim ts n t → reasonGiven lim ts n t ≡ 0
+  passed-reason h = ap (λ (a : Flipped). flipValues a .reason) (applied h)
+
+  by-reason : {A : Type 0} → (reasonGiven lim ts n t ≡ 0 → Acceptable lim ts n t → A) → (reasonGiven lim ts n t ≡ 1 → areFull lim t ≡ false → A)
+      → (reasonGiven lim ts n t ≡ 14 → areFull lim t ≡ true → lim .list < length ts → A)
+      → (reasonGiven lim ts n t ≡ 12 → areFull lim t ≡ true → length ts ≤ lim .list → agree lim n t ≡ false → A)
+      → (reasonGiven lim ts n t ≡ 13 → areFull lim t ≡ true → length ts ≤ lim .list → agree lim n t ≡ true → all (λ v. ltb v (n .terms)) ts ≡ false → A) → A
+  by-reason {A} pass one fourteen twelve thirteen = tests (λ h. pass (passed-reason h) h) by-failed
+    where
+      by-failed : (r : Reason) → Fails lim ts n t r → A
+      by-failed _ (short a) = one (failed-reason _ (short a)) a
+      by-failed _ (long a b) = fourteen (failed-reason _ (long a b)) a b
+      by-failed _ (disagree a b d) = twelve (failed-reason _ (disagree a b d)) a b d
+      by-failed _ (unknown a b d e) = thirteen (failed-reason _ (unknown a b d e)) a b d e
+
+  pub flips-given : Given lim ts n t
+  flips-given =
+      record {
+        reason-1 = (
+          λ q. by-reason (λ z _. absurd (omega arith)) (λ z a. a) (λ z _ _. absurd (omega arith)) (λ z _ _ _. absurd (omega arith)) (λ z _ _ _ _. absurd (omega arith)),
+          λ a. failed-reason _ (short a),
+        );
+        reason-14 = (
+          λ q. by-reason (λ z _. absurd (omega arith)) (λ z _. absurd (omega arith)) (λ z a b. (a, b)) (λ z _ _ _. absurd (omega arith)) (λ z _ _ _ _. absurd (omega arith)),
+          λ a. failed-reason _ (long (a .0) (a .1)),
+        );
+        reason-12 = (
+          λ q. by-reason (λ z _. absurd (omega arith)) (λ z _. absurd (omega arith)) (λ z _ _. absurd (omega arith)) (λ z a b d. (a, b, d)) (λ z _ _ _ _. absurd (omega arith)),
+          λ a. failed-reason _ (disagree (a .0) (a .1) (a .2)),
+        );
+        reason-13 = (
+          λ q. by-reason (λ z _. absurd (omega arith)) (λ z _. absurd (omega arith)) (λ z _ _. absurd (omega arith)) (λ z _ _ _. absurd (omega arith)) (λ z a b d e. (a, b, d, e)),
+          λ a. failed-reason _ (unknown (a .0) (a .1) (a .2) (a .3)),
+        );
+        no-reason = (
+          λ q. by-reason (λ z h. h) (λ z _. absurd (omega arith)) (λ z _ _. absurd (omega arith)) (λ z _ _ _. absurd (omega arith)) (λ z _ _ _ _. absurd (omega arith)),
+          passed-reason,
+        );
+        no-other = by-reason (λ z _. inl (inl z)) (λ z _. inl (inr z)) (λ z _ _. inr (inl z)) (λ z _ _ _. inr (inr (inl z))) (λ z _ _ _ _. inr (inr (inr z)));
+      }
 
 -- ---- what an accepted call leaves
 
@@ -223,9 +290,9 @@ pub file-acceptable : (lim : Limits) (text : List ℕ) (f : File) (vs ts : List 
     → length vs ≡ length (f .names) → Bits vs → length ts ≤ lim .list → all (λ v. ltb v (length (f .names))) ts ≡ true → areFull lim t ≡ true
     → Acceptable lim ts (countsOf (afresh f vs)) (holding lim (afresh f vs) t)
 unfolding countsOf afresh
-file-acceptable lim text f vs ts t e one-each bits short known full =
+file-acceptable lim text f vs ts t e one-each bits few known full =
     let s = afresh f vs in
-    stands-acceptable lim s t (countsOf s) (holding lim s t) (stands-in lim s t valid full) ts short known
+    stands-acceptable lim s t (countsOf s) (holding lim s t) (stands-in lim s t valid full) ts few known
   where
     valid : Valid lim (afresh f vs)
     valid = record { proper = reading-proper lim text f e; one-each = one-each; bits = bits; listed = afresh-listed f vs }

@@ -245,6 +245,7 @@ emptied lim text t e full r =
       in-full-sizes = cleared-take lim t;
       beyond = cleared-beyond lim t;
       full = cleared-full lim t full;
+      values = refl;
       disagrees = cleared-disagrees lim t;
     }
   where
@@ -290,6 +291,7 @@ module _ (lim : Limits) (text : List ℕ) (t : Tables) where
         short = short;
         reason = short-fault short e q;
         left = ap (λ (l : Leaves Read). l .tables) (short-reading lim text t short);
+        values = ap (λ (x : Fault). readValues (R.Refused x)) (short-fault short e q);
         disagrees = none-agree lim (readingOf lim text t .tables);
       }))
 
@@ -404,6 +406,6 @@ reading-over lim first second t =
     (λ full e r.
     ap (readingOf lim second) (refused-tables lim first t full e r) ∙ reading-by lim second (cleared lim t) t (cleared-full lim t full) full (cleared-beyond lim t))
 
--- "two outcomes allowed by it are equal": read twice, the same
+-- read again, the same: what stood before makes no difference
 pub read-twice : (lim : Limits) (text : List ℕ) (t : Tables) → readingOf lim text (readingOf lim text t .tables) ≡ readingOf lim text t
 read-twice lim text t = reading-over lim text text t

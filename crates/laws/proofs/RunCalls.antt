@@ -51,7 +51,7 @@ use Rattle.laws.proofs.Reread.{answer-reads}
 use Rattle.laws.proofs.Stands.{stands-in}
 use Rattle.laws.proofs.WalkCalls.{walk-read}
 use Rattle.laws.proofs.Covers.{told-names, told-back, true-terms, true-hold, hold-true, ones-count}
-use Rattle.laws.proofs.Courses.{long-course, sheet-course, text-course, walk-course, by-course, sheet-reasons, text-reasons, prints-refuses, run-decides}
+use Rattle.laws.proofs.Courses.{long-course, sheet-course, text-course, walk-course, by-course, sheet-reasons, text-reasons, prints-refuses, printed-some, run-decides}
 
 -- ---- with a table or the buffer shorter than its full size, and with neither
 
@@ -75,6 +75,16 @@ module _ (lim : Limits) (input : List ℕ) (t : Tables) (b : List ℕ) where
 
   by-room : {A : Type 0} → (areFull lim t ≡ true → reportSize lim ≤ length b → A) → ((areFull lim t ≡ false) ⊎ (length b < reportSize lim) → A) → A
   by-room told short = by-cases (areFull lim t) (λ full. by-lt (length b) (reportSize lim) (λ l. short (inr l)) (told full)) (λ h. short (inl h))
+
+  -- a run that was not begun writes nothing, and every other writes something
+  pub nothing-exactly : (runOf lim input t b .length ≡ 0) ↔ ((areFull lim t ≡ false) ⊎ (length b < reportSize lim))
+  unfolding ran printed
+  nothing-exactly = (
+    λ q. by-room
+        (λ full room. absurd (omega (arith, printed-some lim input, ap (λ (r : Ran). r .length) (run-ran full room), q)))
+        (λ h. h),
+    λ h. ap (λ (r : Ran). r .length) (run-short h),
+  )
 
 -- ---- how walks came to their end
 
@@ -189,7 +199,7 @@ module _ (lim : Limits) (few : lim .terms < 10 ^ 9) (short : lim .text + 1 < 10 
         → runOf lim input t b .tables ≡ runOf lim input u c .tables
     same-tables same begun = run-told t b ft rb .tables ∙ leaves-by lim input t u same begun ∙ sym (run-told u c fu rc .tables)
 
-  -- "two outcomes allowed by it are equal": run twice, the same
+  -- run again, the same: what stood before makes no difference
   pub run-twice : (t : Tables) (b : List ℕ) → runOf lim input (runOf lim input t b .tables) (runOf lim input t b .buffer) ≡ runOf lim input t b
   run-twice t b =
       by-room lim input t b
@@ -359,7 +369,7 @@ module _ (lim : Limits) (input : List ℕ) (e : Outcome) (w : Walks lim input e)
         }
 
 module _ (lim : Limits) (input : List ℕ) where
-  -- "A found answer names every term once and, read back as literals, covers each clause kept."
+  -- a found answer names every term once and, read back as literals, covers each clause kept
   pub run-found : (e : Outcome) → courseOf lim input ≡ walked e → e .found ≡ true → FoundAnswer lim input e
   run-found e c found = found-answer lim input e (run-walks lim input e .0 c) found
 

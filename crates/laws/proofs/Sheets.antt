@@ -1,20 +1,20 @@
--- What an order sheet comes to: accepted, its numbers are in their ranges; refused, its fault stands in lines 1 to 4. Assumes nothing.
-use Prim.Native.Nat.{ℕ, suc, _≤_}
-use mathlib.Core.Path.{_≡_}
+-- What an order sheet comes to: accepted, its numbers are those of its lines and in their ranges; refused, the first faulty line is named by its own fault.
+-- Assumes nothing.
+use Prim.Native.Nat.{ℕ, suc, _≤_, _<_}
+use mathlib.Core.Path.{_≡_, refl}
 use mathlib.Core.Bool.{Bool, true, _&&_}
 use mathlib.Core.List.{List}
 use native.Mathlib.Omega.{arith}
 use lib.ListN.{length, drop}
 use lib.Dec.{leb}
 use borrow.Author.Tests.{leb-true}
-use Rattle.scan.specs.Text.{bytes}
 use Rattle.written.specs.declared.Order.{Order}
 use Rattle.written.specs.declared.Ordered.{Ordered}
 use Rattle.written.specs.declared.Ordered.the-variants.{Accepted, Refused}
-use Rattle.written.specs.declared.Reason.the-variants.{SheetForm, OutOfRange}
-use Rattle.written.specs.Reasons.{faultAt}
 use Rattle.written.specs.Orders.{Range, seeds, flipsEach, walksAll, biases, within, inRange}
-use Rattle.written.specs.Sheet.{hasForm, numberAfter, lineLength, judged, sheetOf}
+use Rattle.written.specs.Sheet.{hasForm, lineLength, judged, sheetOf}
+use Rattle.laws.specs.Sheets.{afterLines, keyOf, rangeOf, numberIn, GoodTo, Says}
+use Rattle.laws.specs.Sheets.Faulty.{wrong-form, out-of-range}
 use Rattle.laws.proofs.Basics.{by-cases, both-first, both-second}
 
 -- an order's numbers in their ranges
@@ -50,29 +50,44 @@ ranged o h =
       bias-most = within-most biases (o .bias) (both-second (s && f && w) b h);
     }
 
--- a line judged: of the wrong form, out of range, or in range and the rest
-pub judged-cases : (P : Ordered → Type 0) (i : ℕ) (key : List ℕ) (r : Range) (input : List ℕ) (on : ℕ → List ℕ → Ordered) → P (Refused (faultAt i SheetForm))
-    → P (Refused (faultAt i OutOfRange)) → ((n : ℕ) (rest : List ℕ) → within r n ≡ true → P (on n rest)) → P (judged i key r input on)
+-- ---- the first faulty line is named
+
+-- the line k judged, where those before it are good
+line-says : (k : ℕ) (input : List ℕ) (on : ℕ → List ℕ → Ordered) → k < 4 → GoodTo k input
+    → (GoodTo (suc k) input → Says input (on (numberIn k input) (drop (suc (lineLength (afterLines k input))) (afterLines k input))))
+    → Says input (judged (suc k) (keyOf k) (rangeOf k) (afterLines k input) on)
 unfolding judged
-judged-cases P i key r input on form range next =
-    by-cases (hasForm key input)
-    (λ e. rw e (by-cases (within r (numberAfter key input)) (λ q. rw q (next (numberAfter key input) (drop (suc (lineLength input)) input) q)) (λ q. rw q range)))
-    (λ e. rw e form)
+line-says k input on few before next =
+    by-cases (hasForm (keyOf k) (afterLines k input))
+    (λ e. rw e (by-cases (within (rangeOf k) (numberIn k input)) (λ q. rw q (next (before, record { form = e; range = q })))
+    (λ q. rw q (record { line = k; of-four = few; good-before = before; faulty = out-of-range e q; named = refl; values = refl }))))
+    (λ e. rw e (record { line = k; of-four = few; good-before = before; faulty = wrong-form e; named = refl; values = refl }))
 
 all-four : (a b c d : Bool) → a ≡ true → b ≡ true → c ≡ true → d ≡ true → (a && b && c && d) ≡ true
 all-four a b c d h k l m = rw (h, k, l) m
+
+pub sheet-says : (input : List ℕ) → Says input (sheetOf input)
+unfolding sheetOf inRange
+sheet-says input =
+    line-says 0 input _ (omega arith) tt λ b₁.
+    line-says 1 input _ (omega arith) b₁ λ b₂.
+    line-says 2 input _ (omega arith) b₂ λ b₃.
+    line-says 3 input _ (omega arith) b₃ λ b₄.
+    record {
+      good = b₄;
+      numbers = refl;
+      in-range = all-four _ _ _ _ (b₁ .1 .range) (b₂ .1 .range) (b₃ .1 .range) (b₄ .1 .range);
+      text-begins = refl;
+    }
 
 -- what is known of a sheet at the top of an input of n bytes
 abbrev pub Judged : ℕ → Ordered → Type 0
 Judged n (Accepted s) = (inRange (s .order) ≡ true) × (s .at ≤ n)
 Judged n (Refused e) = (1 ≤ e .line) × (e .line ≤ 4)
 
+says-judged : (input : List ℕ) (a : Ordered) → Says input a → Judged (length input) a
+says-judged input (Accepted s) h = (h .in-range, omega (arith, h .text-begins))
+says-judged input (Refused e) h = (omega (arith, h .named), omega (arith, h .named, h .of-four))
+
 pub sheet-judged : (input : List ℕ) → Judged (length input) (sheetOf input)
-unfolding sheetOf inRange
-sheet-judged input =
-    let P = Judged (length input) in
-    judged-cases P 1 (bytes "seed=") seeds input _ (omega arith, omega arith) (omega arith, omega arith) λ s input₂ hs.
-    judged-cases P 2 (bytes "flips=") flipsEach input₂ _ (omega arith, omega arith) (omega arith, omega arith) λ f input₃ hf.
-    judged-cases P 3 (bytes "walks=") walksAll input₃ _ (omega arith, omega arith) (omega arith, omega arith) λ w input₄ hw.
-    judged-cases P 4 (bytes "bias=") biases input₄ _ (omega arith, omega arith) (omega arith, omega arith) λ b text hb.
-    (all-four _ _ _ _ hs hf hw hb, omega arith)
+sheet-judged input = says-judged input (sheetOf input) (sheet-says input)

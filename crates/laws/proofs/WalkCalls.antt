@@ -393,9 +393,9 @@ module _ (lim : Limits) (o : Order) (n : Counts) (t : Tables) (range : inRange o
           ∙ walk-after _ m _ (h .agrees) (h .full) (flips-accepted lim ts n m t a .stands) (flipped-file ts (stateIn n t))
       after (inr (e, a)) =
           let u = flips-refused lim ts n t e a in
-          ap₂ (λ (x : Flipped) (w : Tables). walkOf lim o (flipValues x .counts) w) a (u .0) ∙ ap (λ (m : Counts). walkOf lim o m t) (u .1)
+          ap₂ (λ (x : Flipped) (w : Tables). walkOf lim o (flipValues x .counts) w) a (u .left) ∙ ap (λ (m : Counts). walkOf lim o m t) (u .counts)
 
--- "two outcomes allowed by it are equal": walked twice, the same
+-- walked again by the same order, the same: what stood before makes no difference
 pub walk-twice : (lim : Limits) (o : Order) (n : Counts) (t : Tables)
     → walkOf lim o (walkValues (walkOf lim o n t .answer) .counts) (walkOf lim o n t .tables) ≡ walkOf lim o n t
 walk-twice lim o n t = tests lim o n t (λ h. walk-over lim o n t (h .range) o) (unmoved lim o n t o)

@@ -3,5 +3,7 @@ pub mod Valid
 pub mod Calls
 pub mod Demands
 pub mod ReadCalls
+pub mod FlipCalls
 pub mod WalkCalls
+pub mod Sheets
 pub mod RunCalls

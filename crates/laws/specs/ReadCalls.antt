@@ -45,7 +45,9 @@ pub record LeftAlone (lim : Limits) (t : Tables) (e : Fault) (u : Tables) : Type
   pub reason : e ≡ fault ShortTable
   -- "all unchanged"
   pub left : u ≡ t
-  -- "A refused reading returns four counts of 0, for reason 1 too": no table agrees with these
+  -- "A refused reading returns four counts of 0, for reason 1 too"
+  pub values : readValues (R.Refused e) ≡ record { result = 0; reason = 1; line = 0; walks = 0; flips = 0; counts = noCounts }
+  -- no table agrees with these counts
   pub disagrees : agree lim noCounts u ≡ false
 
 -- one refused by another reason: "tables 0"
@@ -67,7 +69,9 @@ pub record Emptied (lim : Limits) (text : List ℕ) (t : Tables) (e : Fault) (u 
   -- "the excess is never read or written"
   pub beyond : each drop (fullSizes lim) u ≡ each drop (fullSizes lim) t
   pub full : areFull lim u ≡ true
-  -- "all four counts are then 0": no clause stands in such tables, so no counts agree with them, these four neither
+  -- "all four counts are then 0"
+  pub values : readValues (R.Refused e) ≡ record { result = 0; reason = numberOf (e .reason); line = e .line; walks = 0; flips = 0; counts = noCounts }
+  -- no clause stands in such tables, so no counts agree with them, these four neither
   pub disagrees : (m : Counts) → agree lim m u ≡ false
 
 -- ---- "then the text from the left": where a reading comes by, and what it cannot pass

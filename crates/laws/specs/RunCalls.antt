@@ -172,7 +172,7 @@ readBack xs (Cut n ∷ ts) = readBack xs ts
 readBack xs (Bad n ∷ ts) = readBack xs ts
 readBack xs (Long n ∷ ts) = readBack xs ts
 
--- ---- "A found answer names every term once and, read back as literals, covers each clause kept."
+-- ---- a found answer names every term once and, read back as literals, covers each clause kept
 
 -- four lines and a key
 unfoldable pub beforeAnswer : Outcome → List ℕ

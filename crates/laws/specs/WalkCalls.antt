@@ -38,7 +38,8 @@ pub data Comes (o : Order) (f : File) : ℕ → ℕ → Moment → Type 0 where
   -- 3, 4 and 5: "Back to 2"
   goes-on : (n k : ℕ) (m : Moment) → Comes o f n (suc k) m → isFound (m .state) ≡ false → Comes o f n k (step o m)
 
--- states of the generator: each at which the walks draw is among these
+-- the states of the generator at which the walks draw, by a reading of steps 1, 3 and 4; it may name a state at which none is made, as after heads
+-- where a single literal is taken
 pub data DrawsAt (o : Order) (f : File) : ℕ → Type 0 where
   -- 1. "for every 32 terms, or the part of 32 at the end, one draw": j of these are made
   at-start : (n j : ℕ) (m : Moment) → Comes o f n 0 m → n < o .walks → (0 < n → isFound (m .state) ≡ false) → j < wordCount (length (f .names))
@@ -102,7 +103,7 @@ pub record Ended (lim : Limits) (o : Order) (n : Counts) (t : Tables) (e : Tour)
   pub some-walk : 0 < e .walks
   pub walks-most : e .walks ≤ o .walks
   pub flips-most : e .flips ≤ e .walks * o .flips
-  -- "The generator's state is a number from 1 to 4,294,967,295": no draw is made at the state 0
+  -- "The generator's state is a number from 1 to 4,294,967,295": none of these is 0
   pub draws : (y : ℕ) → DrawsAt o (fileIn n t) y → (seeds .least ≤ y) × (y ≤ seeds .most)
 
 -- the values that stand in the tables left, and a clause that was kept

@@ -51,7 +51,7 @@ pub fn take<'s, 'a>(r: &'s mut Reader<'a>) -> Token
     s.token
 }
 
-// The next token from a place and its line: no reader in its signature, so whoever calls it needs no walk.
+// The next token from a place and its line: no reader in its signature, so that whoever calls it is proved as any other code.
 pub fn token_at(text: &[u8], at: usize, line: usize) -> Step
     ensures { λ s. ⌜ s ≡ scan (now (text .entry)) (cursorAt at line) ⌝ }
 {
