@@ -23,7 +23,11 @@ struct tables {
     uint16_t places[NGI_PLACES_SIZE];
 };
 
+/* The ten tables as arguments, in the order in which every call takes them. */
 #define LENT(table) (table), sizeof(table) / sizeof *(table)
+#define LENT_TABLES(t)                                                                                                               \
+    LENT((t)->names), LENT((t)->values), LENT((t)->starts), LENT((t)->literals_table), LENT((t)->occurrence_starts),                 \
+        LENT((t)->occurrences), LENT((t)->true_counts), LENT((t)->break_counts), LENT((t)->uncovered_list), LENT((t)->places)
 
 static _Noreturn void fail(const char *why)
 {

@@ -32,9 +32,7 @@ static void draw_list(uint32_t terms, size_t length)
 /* The first flips of the list; a refusal ends the program. */
 static void apply(flip_function *flip, struct tables *t, size_t flips)
 {
-    ngi_flip_answer answer = flip(list, flips, t->terms, t->clauses, t->literals, t->uncovered, LENT(t->names), LENT(t->values),
-                                  LENT(t->starts), LENT(t->literals_table), LENT(t->occurrence_starts), LENT(t->occurrences),
-                                  LENT(t->true_counts), LENT(t->break_counts), LENT(t->uncovered_list), LENT(t->places));
+    ngi_flip_answer answer = flip(list, flips, t->terms, t->clauses, t->literals, t->uncovered, LENT_TABLES(t));
     if (answer.result != 1)
         fail("the list is refused");
     t->terms = answer.terms;

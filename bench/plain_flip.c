@@ -15,22 +15,10 @@ static ngi_flip_answer answer(const struct tables *t, uint32_t reason)
 }
 
 ngi_flip_answer plain_flip(const uint16_t *list, size_t list_length,
-                           uint32_t terms, uint32_t clauses, uint32_t literals, uint32_t uncovered,
-                           const uint64_t *names, size_t names_length,
-                           uint32_t *values, size_t values_length,
-                           const uint16_t *starts, size_t starts_length,
-                           const uint16_t *literals_table, size_t literals_table_length,
-                           const uint16_t *occurrence_starts, size_t occurrence_starts_length,
-                           const uint16_t *occurrences, size_t occurrences_length,
-                           uint16_t *true_counts, size_t true_counts_length,
-                           uint16_t *break_counts, size_t break_counts_length,
-                           uint16_t *uncovered_list, size_t uncovered_list_length,
-                           uint16_t *places, size_t places_length)
+                           uint32_t terms, uint32_t clauses, uint32_t literals, uint32_t uncovered, TABLE_PARAMETERS(const))
 {
-    struct tables t = {terms, clauses, literals, uncovered, names, values, starts, literals_table, occurrence_starts, occurrences,
-                       true_counts, break_counts, uncovered_list, places};
-    if (!are_full(names_length, values_length, starts_length, literals_table_length, occurrence_starts_length, occurrences_length,
-                  true_counts_length, break_counts_length, uncovered_list_length, places_length))
+    struct tables t = {terms, clauses, literals, uncovered, TABLES};
+    if (!ARE_FULL)
         return answer(&t, NGI_TABLE_TOO_SHORT);
     if (list_length > NGI_LIST)
         return answer(&t, NGI_LIST_TOO_LONG);

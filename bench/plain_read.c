@@ -196,22 +196,10 @@ static ngi_read_answer read_into(struct tables *t, const uint8_t *text, size_t l
     return (ngi_read_answer){1, NGI_NO_REASON, 0, t->terms, t->clauses, t->literal_count, t->uncovered};
 }
 
-ngi_read_answer plain_read(const uint8_t *text, size_t text_length,
-                           uint64_t *names, size_t names_length,
-                           uint32_t *values, size_t values_length,
-                           uint16_t *starts, size_t starts_length,
-                           uint16_t *literals_table, size_t literals_table_length,
-                           uint16_t *occurrence_starts, size_t occurrence_starts_length,
-                           uint16_t *occurrences, size_t occurrences_length,
-                           uint16_t *true_counts, size_t true_counts_length,
-                           uint16_t *break_counts, size_t break_counts_length,
-                           uint16_t *uncovered_list, size_t uncovered_list_length,
-                           uint16_t *places, size_t places_length)
+ngi_read_answer plain_read(const uint8_t *text, size_t text_length, TABLE_PARAMETERS())
 {
-    struct tables t = {0, 0, 0, 0, names, values, starts, literals_table, occurrence_starts, occurrences,
-                       true_counts, break_counts, uncovered_list, places};
-    if (!are_full(names_length, values_length, starts_length, literals_table_length, occurrence_starts_length, occurrences_length,
-                  true_counts_length, break_counts_length, uncovered_list_length, places_length))
+    struct tables t = {0, 0, 0, 0, TABLES};
+    if (!ARE_FULL)
         return refused(NGI_TABLE_TOO_SHORT, 0);
     return read_into(&t, text, text_length);
 }

@@ -86,8 +86,7 @@ static void make_text(uint32_t terms, uint32_t clauses, uint32_t literals)
 
 static ngi_read_answer read_text(read_function *read, struct tables *t)
 {
-    return read(text, text_length, LENT(t->names), LENT(t->values), LENT(t->starts), LENT(t->literals_table), LENT(t->occurrence_starts),
-                LENT(t->occurrences), LENT(t->true_counts), LENT(t->break_counts), LENT(t->uncovered_list), LENT(t->places));
+    return read(text, text_length, LENT_TABLES(t));
 }
 
 static void read_accepted(read_function *read, struct tables *t, uint32_t readings)

@@ -31,9 +31,7 @@ static struct tables one, other;
 
 static ngi_walk_answer walk(walk_function *by, struct tables *t, struct order o)
 {
-    ngi_walk_answer answer = by(o.seed, o.flips, o.walks, o.bias, t->terms, t->clauses, t->literals, t->uncovered, LENT(t->names),
-                                LENT(t->values), LENT(t->starts), LENT(t->literals_table), LENT(t->occurrence_starts), LENT(t->occurrences),
-                                LENT(t->true_counts), LENT(t->break_counts), LENT(t->uncovered_list), LENT(t->places));
+    ngi_walk_answer answer = by(o.seed, o.flips, o.walks, o.bias, t->terms, t->clauses, t->literals, t->uncovered, LENT_TABLES(t));
     t->uncovered = answer.uncovered;
     return answer;
 }
