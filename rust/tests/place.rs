@@ -43,6 +43,12 @@ fn giving_up_says_what_is_left() {
 fn a_refusal_says_its_line() {
     let words = place(&sheet("refused")).unwrap_err();
     assert_eq!(words, "line 3: a name has a ninth byte");
-    assert!(place("seed=x\n").is_err());
-    assert!(place("seed=0\nflips=1\nwalks=1\nbias=1\na\n").is_err());
+}
+
+#[test]
+fn a_refused_sheet_says_why() {
+    let words = place("seed=x\n").unwrap_err();
+    assert_eq!(words, "the order sheet has the wrong form");
+    let words = place("seed=0\nflips=1\nwalks=1\nbias=1\na\n").unwrap_err();
+    assert_eq!(words, "a number is outside its range");
 }

@@ -2,6 +2,8 @@
 
 mod common;
 
+use std::fmt::Debug;
+
 use common::*;
 use ngiyarumba::{run, Counts, Error, Generator, Order, Reason, Tables};
 
@@ -17,6 +19,11 @@ fn refused(text: &str) -> Error {
 fn assert_refused(text: &str, reason: Reason, line: Option<u32>) {
     let error = refused(text);
     assert_eq!((error.reason(), error.line()), (reason, line));
+}
+
+/// The reason of a call that is refused.
+fn reason_of<T: Debug>(answer: Result<T, Error>) -> Reason {
+    answer.unwrap_err().reason()
 }
 
 #[test]
@@ -109,33 +116,20 @@ fn reason_11_numbers_out_of_range() {
 
 #[test]
 fn reason_11_draws_out_of_range() {
-    let reason = |error: Error| error.reason();
-    assert_eq!(
-        Generator::new(0).map_err(reason).unwrap_err(),
-        Reason::OutOfRange
-    );
+    assert_eq!(reason_of(Generator::new(0)), Reason::OutOfRange);
     let mut generator = Generator::new(7).unwrap();
-    assert_eq!(generator.choice(0).map_err(reason), Err(Reason::OutOfRange));
-    assert_eq!(
-        generator.heads(1_001).map_err(reason),
-        Err(Reason::OutOfRange)
-    );
+    assert_eq!(reason_of(generator.choice(0)), Reason::OutOfRange);
+    assert_eq!(reason_of(generator.heads(1_001)), Reason::OutOfRange);
     assert_eq!(generator.state(), 7);
 }
 
 #[test]
 fn reason_12_no_clause_stands() {
     let mut tables = Tables::new();
-    assert_eq!(
-        tables.walk(ORDER).unwrap_err().reason(),
-        Reason::Disagreement
-    );
-    assert_eq!(tables.flip(&[]).unwrap_err().reason(), Reason::Disagreement);
+    assert_eq!(reason_of(tables.walk(ORDER)), Reason::Disagreement);
+    assert_eq!(reason_of(tables.flip(&[])), Reason::Disagreement);
     tables.read("a\tb\n").unwrap_err();
-    assert_eq!(
-        tables.walk(ORDER).unwrap_err().reason(),
-        Reason::Disagreement
-    );
+    assert_eq!(reason_of(tables.walk(ORDER)), Reason::Disagreement);
     assert_eq!(tables.answer(), None);
 }
 
@@ -143,10 +137,7 @@ fn reason_12_no_clause_stands() {
 fn reason_13_an_unknown_term() {
     let mut tables = read(TEXT);
     let before = tables.clone();
-    assert_eq!(
-        tables.flip(&[1, 0, 2]).unwrap_err().reason(),
-        Reason::UnknownTerm
-    );
+    assert_eq!(reason_of(tables.flip(&[1, 0, 2])), Reason::UnknownTerm);
     assert_eq!(tables, before);
 }
 
@@ -154,10 +145,7 @@ fn reason_13_an_unknown_term() {
 fn reason_14_a_long_list() {
     let mut tables = read(TEXT);
     let before = tables.clone();
-    assert_eq!(
-        tables.flip(&[0; 65_537]).unwrap_err().reason(),
-        Reason::LongList
-    );
+    assert_eq!(reason_of(tables.flip(&[0; 65_537])), Reason::LongList);
     assert_eq!(tables, before);
     assert!(tables.flip(&[0; 65_536]).is_ok());
 }
