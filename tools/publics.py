@@ -32,7 +32,7 @@ def differences(have, listed, too_many, too_few):
 def main():
     here = [pair for source in sorted(ROOT.glob("crates/*/src/**/*.rt")) for pair in functions_of(source)]
     public = {name: function for name, function in here if function["public"]}
-    asking = {name for name, function in public.items() if "requires" in function["contract"]}
+    asking = {name for name, function in public.items() if "requires {" in function["contract"]}
     listed = [(name, row.get("asks", "nothing")) for section, row in rows() for name in functions(section, row)]
     may_ask = {name for name, asks in listed if asks != "nothing"}
     wrong = differences(public.keys(), {name for name, _ in listed}, "no statement names it", "a statement names it, and it is not there")
