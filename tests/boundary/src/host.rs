@@ -12,7 +12,7 @@ use oracle::{Counts, Order, Tables};
 
 use crate::differences::TABLE_NAMES;
 use crate::watch::Watched;
-use crate::wire::{entries_of, numbers_of, put_entries, put_numbers, request, NUMBER_WIDTH};
+use crate::wire::{entries_of, put_entries, put_numbers, request, NUMBER_WIDTH};
 use crate::NARROW;
 
 /// `tests/host/build` writes it.
@@ -89,7 +89,7 @@ impl Host {
     pub fn flip(&mut self, list: &[u64], counts: &Counts) -> Result<Called<FlipAnswer>, Fault> {
         let mut request = request(FLIP, &[list.len() as u64]);
         put_entries(&mut request, list, TERM_WIDTH);
-        put_numbers(&mut request, &numbers_of(counts));
+        put_numbers(&mut request, &counts.all());
         let list = ("list", list.len(), TERM_WIDTH);
         self.call(&request, &[list], Host::flip_answer)
     }
@@ -104,9 +104,8 @@ impl Host {
 
     /// `ngi_walk` on the tables that are lent.
     pub fn walk(&mut self, order: &Order, counts: &Counts) -> Result<Called<WalkAnswer>, Fault> {
-        let numbers = [order.seed, order.flips, order.walks, order.bias];
-        let mut request = request(WALK, &numbers);
-        put_numbers(&mut request, &numbers_of(counts));
+        let mut request = request(WALK, &order.all());
+        put_numbers(&mut request, &counts.all());
         self.call(&request, &[], Host::walk_answer)
     }
 

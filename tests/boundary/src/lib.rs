@@ -28,21 +28,15 @@ use oracle::{Counts, Limits, Order, Tables};
 
 pub const NARROW: Limits = Limits::NARROW;
 
-/// The order of document 01's examples: "Numbers are those above unless said."
-pub const ORDER: Order = Order {
-    seed: 1,
-    flips: 10,
-    walks: 1,
-    bias: 400,
-};
+pub const ORDER: Order = Order::EXAMPLE;
 
 /// An order of seed 1.
 pub fn order_for(flips: u64, walks: u64, bias: u64) -> Order {
     Order {
-        seed: 1,
         flips,
         walks,
         bias,
+        ..ORDER
     }
 }
 
@@ -68,6 +62,20 @@ pub fn agreeing(random: &mut Random) -> Lent {
 pub fn holding(text: &[u8], random: &mut Random) -> Lent {
     let standing = standing_tables_of(text, &NARROW, random);
     standing.expect("the text is accepted")
+}
+
+/// For each of these seeds tables of this making, lent to both sides; then goes on from there.
+pub fn for_each_file(
+    seeds: impl IntoIterator<Item = u64>,
+    make: fn(&mut Random) -> Lent,
+    mut goes_on: impl FnMut(&mut Sides, &mut Random),
+) {
+    let mut sides = Sides::start();
+    for seed in seeds {
+        let random = &mut Random::new(seed);
+        sides.lend(format!("seed {seed}"), make(random));
+        goes_on(&mut sides, random);
+    }
 }
 
 /// Tables that differ in a true count from what the values say.

@@ -267,12 +267,9 @@ fn shown(text: &[u8]) -> String {
     format!("a text of {before} bytes and \"{}\"", end.escape_ascii())
 }
 
-fn low_32_bits(counts: Counts) -> Counts {
-    let low = |count: u64| count & u64::from(u32::MAX);
-    Counts {
-        terms: low(counts.terms),
-        clauses: low(counts.clauses),
-        literals: low(counts.literals),
-        uncovered: low(counts.uncovered),
+fn low_32_bits(mut counts: Counts) -> Counts {
+    for count in counts.all_mut() {
+        *count &= u64::from(u32::MAX);
     }
+    counts
 }

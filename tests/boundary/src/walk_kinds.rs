@@ -1,5 +1,6 @@
-//! What kinds of order, of answer and of step a walk was, in words, to be counted.
+//! What kinds of order, of end and of step a walk was, to be counted.
 
+use oracle::kinds;
 use oracle::order::{SEEDS, THOUSANDTHS};
 use oracle::reasons::NONE;
 use oracle::walk::{Step, WalkAnswer};
@@ -7,17 +8,67 @@ use oracle::{Counts, Order, Tables};
 
 use crate::{Sides, Tally};
 
-pub type Kinds = Tally<&'static str>;
+kinds! {
+    /// What a walk can be.
+    pub enum Met {
+        ANY {
+            Walk,
+            TermInNoClause,
+        }
+        ORDERS {
+            FirstSeed,
+            LastSeed,
+            AnotherSeed,
+            NoFlipAllowed,
+            OneFlipAllowed,
+            TwoFlipsAllowed,
+            FewFlipsAllowed,
+            ManyFlipsAllowed,
+            OneWalkAllowed,
+            TwoWalksAllowed,
+            ThreeWalksAllowed,
+            FourWalksAllowed,
+            FiveWalksAllowedOrMore,
+            Bias0,
+            Bias400,
+            Bias1000,
+            AnotherBias,
+        }
+        ENDS {
+            GaveUpAfterOneWalk,
+            GaveUpAfterSeveralWalks,
+            FoundInTheFirstWalk,
+            FoundInALaterWalk,
+            FoundWithNoFlipAllowed,
+            FoundBeforeAFlip,
+            FoundByTheLastFlip,
+            FoundByAnEarlierFlip,
+        }
+        STEPS {
+            OneUncovered,
+            HeadsInAClauseOfOne,
+            HeadsInALongerClause,
+            TailsAndOneAtTheLeast,
+            TailsAndSeveralAtTheLeast,
+            OneBreaksNothing,
+            SeveralBreakNothing,
+        }
+    }
+}
+
+use Met::*;
+
+pub type Kinds = Tally<Met>;
 
 /// Walks on both sides, by an order that is not refused, and notes all that the walk was.
 pub fn walk_and_note(sides: &mut Sides, order: &Order, met: &mut Kinds) {
     let answer = sides.walk(order);
     assert_eq!(answer.reason, NONE);
-    met.note("walk");
+    met.note(Walk);
     note_order(order, met);
     note_answer(order, &answer, met);
     if has_a_term_in_no_clause(&sides.counts, &sides.tables) {
-        met.note("a term in no clause");
+        met.note(TermInNoClause);
     }
     for step in &sides.steps {
         note_step(step, met);
@@ -26,29 +77,29 @@ pub fn walk_and_note(sides: &mut Sides, order: &Order, met: &mut Kinds) {
 
 fn note_order(order: &Order, met: &mut Kinds) {
     met.note(match order.seed {
-        seed if seed == *SEEDS.start() => "the first seed",
-        seed if seed == *SEEDS.end() => "the last seed",
-        _ => "another seed",
+        seed if seed == *SEEDS.start() => FirstSeed,
+        seed if seed == *SEEDS.end() => LastSeed,
+        _ => AnotherSeed,
     });
     met.note(match order.flips {
-        0 => "no flip allowed",
-        1 => "one flip allowed",
-        2 => "two flips allowed",
-        3..=99 => "few flips allowed",
-        _ => "many flips allowed",
+        0 => NoFlipAllowed,
+        1 => OneFlipAllowed,
+        2 => TwoFlipsAllowed,
+        3..=99 => FewFlipsAllowed,
+        _ => ManyFlipsAllowed,
     });
     met.note(match order.walks {
-        1 => "one walk allowed",
-        2 => "two walks allowed",
-        3 => "three walks allowed",
-        4 => "four walks allowed",
-        _ => "five walks allowed, or more",
+        1 => OneWalkAllowed,
+        2 => TwoWalksAllowed,
+        3 => ThreeWalksAllowed,
+        4 => FourWalksAllowed,
+        _ => FiveWalksAllowedOrMore,
     });
     met.note(match order.bias {
-        0 => "bias 0",
-        400 => "bias 400",
-        THOUSANDTHS => "bias 1,000",
-        _ => "another bias",
+        0 => Bias0,
+        400 => Bias400,
+        THOUSANDTHS => Bias1000,
+        _ => AnotherBias,
     });
 }
 
@@ -57,37 +108,37 @@ fn note_answer(order: &Order, answer: &WalkAnswer, met: &mut Kinds) {
     let several = answer.walks > 1;
     if answer.result != 1 {
         met.note(if several {
-            "gave up after several walks"
+            GaveUpAfterSeveralWalks
         } else {
-            "gave up after one walk"
+            GaveUpAfterOneWalk
         });
         return;
     }
     met.note(if several {
-        "found in a later walk"
+        FoundInALaterWalk
     } else {
-        "found in the first walk"
+        FoundInTheFirstWalk
     });
     let of_the_last = answer.flips - (answer.walks - 1) * order.flips;
     met.note(match of_the_last {
-        0 if order.flips == 0 => "found with no flip allowed",
-        0 => "found before a flip",
-        last if last == order.flips => "found by the last flip allowed",
-        _ => "found by an earlier flip",
+        0 if order.flips == 0 => FoundWithNoFlipAllowed,
+        0 => FoundBeforeAFlip,
+        last if last == order.flips => FoundByTheLastFlip,
+        _ => FoundByAnEarlierFlip,
     });
 }
 
 fn note_step(step: &Step, met: &mut Kinds) {
     if step.uncovered == 1 {
-        met.note("one uncovered clause");
+        met.note(OneUncovered);
     }
     met.note(match step.heads {
-        Some(true) if step.literals == 1 => "heads in a clause of one",
-        Some(true) => "heads in a longer clause",
-        Some(false) if step.at_least == 1 => "tails and one at the least",
-        Some(false) => "tails and several at the least",
-        None if step.at_least == 1 => "one that breaks nothing",
-        None => "several that break nothing",
+        Some(true) if step.literals == 1 => HeadsInAClauseOfOne,
+        Some(true) => HeadsInALongerClause,
+        Some(false) if step.at_least == 1 => TailsAndOneAtTheLeast,
+        Some(false) => TailsAndSeveralAtTheLeast,
+        None if step.at_least == 1 => OneBreaksNothing,
+        None => SeveralBreakNothing,
     });
 }
 

@@ -1,7 +1,5 @@
 //! Requests and answers as bytes, little-endian.
 
-use oracle::Counts;
-
 /// Bytes of every number but entries and bytes of text.
 pub const NUMBER_WIDTH: usize = 4;
 
@@ -17,15 +15,6 @@ pub fn put_numbers(request: &mut Vec<u8>, numbers: &[u64]) {
         let number = u32::try_from(*number).expect("numbers have 32 bits");
         request.extend(number.to_le_bytes());
     }
-}
-
-pub fn numbers_of(counts: &Counts) -> [u64; 4] {
-    [
-        counts.terms,
-        counts.clauses,
-        counts.literals,
-        counts.uncovered,
-    ]
 }
 
 /// Each width by itself, so that the compiler knows it: an entry then takes no call.

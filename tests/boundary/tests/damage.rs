@@ -83,13 +83,11 @@ fn reason_of_change(
     random: &mut Random,
 ) -> u64 {
     let [table, entry] = entry;
+    let (counts, tables) = standing;
     let difference = some_difference(NARROW.entry_bits()[table], random);
     let case = format!("{} entry {entry} xor {difference}", TABLE_NAMES[table]);
-    sides.lend(
-        case,
-        (standing.0, changed(&standing.1, table, entry, difference)),
-    );
-    reason_of_both(sides, &few_flips(standing.0.terms, random))
+    sides.lend(case, (*counts, changed(tables, table, entry, difference)));
+    reason_of_both(sides, &few_flips(counts.terms, random))
 }
 
 #[test]
@@ -163,16 +161,6 @@ fn each_kind_of_damage_is_judged_as_the_independent_program_judges_it() {
     }
 }
 
-/// The four counts, by number.
-fn count_mut(counts: &mut Counts, number: usize) -> &mut u64 {
-    match number {
-        0 => &mut counts.terms,
-        1 => &mut counts.clauses,
-        2 => &mut counts.literals,
-        _ => &mut counts.uncovered,
-    }
-}
-
 /// Other counts: near, at the limits, equal in the low 16 bits, and at the type's end.
 fn other_counts(count: u64) -> BTreeSet<u64> {
     let near = [0, 1, count.saturating_sub(1), count + 1, 2 * count + 1];
@@ -193,16 +181,13 @@ fn other_counts(count: u64) -> BTreeSet<u64> {
 #[test]
 fn each_of_the_four_counts_is_judged() {
     let mut sides = Sides::start();
-    for number in 0..4 {
-        let (counts, tables) = small_file();
-        let count = *count_mut(&mut counts.clone(), number);
+    let (counts, tables) = small_file();
+    for (number, count) in counts.all().into_iter().enumerate() {
         for other in other_counts(count) {
             let mut counts = counts;
-            *count_mut(&mut counts, number) = other;
-            sides.lend(
-                format!("count {number} is {other}"),
-                (counts, tables.clone()),
-            );
+            *counts.all_mut()[number] = other;
+            let case = format!("count {number} is {other}");
+            sides.lend(case, (counts, tables.clone()));
             refuse_both(&mut sides, &[0, 1]);
         }
     }
@@ -212,18 +197,14 @@ fn each_of_the_four_counts_is_judged() {
 fn all_four_counts_at_the_types_end_or_at_0_are_reason_12() {
     let mut sides = Sides::start();
     for count in [0, u64::from(u16::MAX), u64::from(u32::MAX)] {
-        let counts = Counts {
-            terms: count,
-            clauses: count,
-            literals: count,
-            uncovered: count,
-        };
+        let mut counts = Counts::default();
+        for each in counts.all_mut() {
+            *each = count;
+        }
         sides.lend(format!("counts {count}"), (counts, small_file().1));
         refuse_both(&mut sides, &[0]);
-        sides.lend(
-            format!("counts {count}, tables 0"),
-            (counts, Tables::zeros(&NARROW)),
-        );
+        let case = format!("counts {count}, tables 0");
+        sides.lend(case, (counts, Tables::zeros(&NARROW)));
         refuse_both(&mut sides, &[]);
     }
 }

@@ -1,7 +1,7 @@
 //! Flip lists on tables that agree.
 
 use boundary::tally::share_out;
-use boundary::{agreeing, full_tables, holding, Sides, Tally, NARROW};
+use boundary::{agreeing, for_each_file, full_tables, holding, Sides, Tally, NARROW};
 use oracle::generate::*;
 use oracle::reasons::{LIST_TOO_LONG, NONE, UNKNOWN_TERM};
 
@@ -30,18 +30,20 @@ fn some_list(terms: u64, random: &mut Random) -> Vec<u64> {
     flip_list_of(kind, &NARROW, terms, random)
 }
 
-/// Compares lists on the file of each seed, one after the other on the same tables; counts each reason.
-fn compare_files(seeds: &[u64]) -> Tally<u64> {
-    let mut sides = Sides::start();
-    let mut met = Tally::default();
-    for seed in seeds {
-        let random = &mut Random::new(*seed);
-        sides.lend(format!("seed {seed}"), agreeing(random));
-        for _ in 0..LISTS_ON_EACH {
-            let list = some_list(sides.counts.terms, random);
-            met.note(sides.flip(&list).reason);
-        }
+/// Lists of mixed kinds, one after the other on the same tables; notes each reason.
+fn compare_some_lists(sides: &mut Sides, random: &mut Random, met: &mut Tally<u64>) {
+    for _ in 0..LISTS_ON_EACH {
+        let list = some_list(sides.counts.terms, random);
+        met.note(sides.flip(&list).reason);
     }
+}
+
+/// Compares lists on the file of each seed.
+fn compare_files(seeds: &[u64]) -> Tally<u64> {
+    let mut met = Tally::default();
+    for_each_file(seeds.iter().copied(), agreeing, |sides, random| {
+        compare_some_lists(sides, random, &mut met);
+    });
     met
 }
 
@@ -52,14 +54,6 @@ fn twenty_thousand_random_lists_leave_what_the_independent_program_leaves() {
     met.expect([(NONE, 10_000), (UNKNOWN_TERM, 1_000)]);
 }
 
-/// Lists of mixed kinds, one after the other.
-fn compare_some_lists(sides: &mut Sides, random: &mut Random) {
-    for _ in 0..LISTS_ON_EACH {
-        let list = some_list(sides.counts.terms, random);
-        sides.flip(&list);
-    }
-}
-
 #[test]
 fn lists_on_files_that_meet_one_limit_leave_what_the_independent_program_leaves() {
     let kinds = [
@@ -68,24 +62,25 @@ fn lists_on_files_that_meet_one_limit_leave_what_the_independent_program_leaves(
         TextKind::LiteralsAtLimit,
     ];
     let mut sides = Sides::start();
+    let mut met = Tally::default();
     for seed in 0..6 {
         for kind in kinds {
             let random = &mut Random::new(seed);
             let text = clause_text_of(kind, &NARROW, random);
             sides.lend(format!("{kind:?}, seed {seed}"), holding(&text, random));
-            compare_some_lists(&mut sides, random);
+            compare_some_lists(&mut sides, random, &mut met);
         }
     }
+    met.expect([(NONE, 90), (UNKNOWN_TERM, 9)]);
 }
 
 #[test]
 fn lists_on_files_that_meet_every_limit_leave_what_the_independent_program_leaves() {
-    let mut sides = Sides::start();
-    for seed in 0..6 {
-        let random = &mut Random::new(seed);
-        sides.lend(format!("seed {seed}"), full_tables(random));
-        compare_some_lists(&mut sides, random);
-    }
+    let mut met = Tally::default();
+    for_each_file(0..6, full_tables, |sides, random| {
+        compare_some_lists(sides, random, &mut met);
+    });
+    met.expect([(NONE, 30), (UNKNOWN_TERM, 3)]);
 }
 
 /// Small files and one that holds every limit, each with a list of this kind.

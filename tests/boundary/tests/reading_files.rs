@@ -10,14 +10,12 @@ use oracle::reasons::{BYTE_NOT_ALLOWED, NONE, NO_CLAUSE, TEXT_TOO_LONG};
 const SMALL_TEXTS: u64 = 640;
 const LIMIT_TEXTS: u64 = 120;
 
-/// Every kind with the number of its texts; the generator lists those that meet a limit last.
-fn kinds() -> Vec<(TextKind, u64)> {
-    let mut small = TextKind::all();
-    let at_limit = |kind: &TextKind| *kind == TextKind::TermsAtLimit;
-    let first = small.iter().position(at_limit).expect("a kind at a limit");
-    let limit = small.split_off(first).into_iter();
-    let small = small.into_iter().map(|kind| (kind, SMALL_TEXTS));
-    small.chain(limit.map(|kind| (kind, LIMIT_TEXTS))).collect()
+/// Every kind with the number of its texts.
+fn kinds() -> impl Iterator<Item = (TextKind, u64)> {
+    let valid = ValidKind::ALL.map(TextKind::Valid).into_iter();
+    let small = valid.chain(TextKind::FAULTY);
+    let limit = TextKind::AT_LIMITS.map(|kind| (kind, LIMIT_TEXTS));
+    small.map(|kind| (kind, SMALL_TEXTS)).chain(limit)
 }
 
 /// Reads the texts of these seeds; counts each reason.

@@ -1,7 +1,7 @@
 //! Lists and lengths that are refused, and which reason comes first.
 
 use boundary::lengths::for_each_shorter;
-use boundary::{agreeing, disagreeing, few_flips, holding, Sides, NARROW};
+use boundary::{agreeing, disagreeing, few_flips, for_each_file, holding, Sides, NARROW};
 use oracle::generate::*;
 use oracle::reasons::{LIST_TOO_LONG, TABLES_DISAGREE, TABLE_TOO_SHORT, UNKNOWN_TERM};
 
@@ -19,10 +19,7 @@ fn with(mut list: Vec<u64>, place: usize, term: u64) -> Vec<u64> {
 
 #[test]
 fn an_unknown_term_first_in_the_middle_or_last_refuses_the_whole_list() {
-    let mut sides = Sides::start();
-    for seed in 0..FILES {
-        let random = &mut Random::new(seed);
-        sides.lend(format!("seed {seed}"), agreeing(random));
+    for_each_file(0..FILES, agreeing, |sides, random| {
         let terms = sides.counts.terms;
         let list = few_flips(terms, random);
         for place in [0, list.len() / 2, list.len() - 1] {
@@ -32,19 +29,18 @@ fn an_unknown_term_first_in_the_middle_or_last_refuses_the_whole_list() {
             sides.apply(&with(list.clone(), place, terms - 1));
         }
         sides.refuse(&[terms], UNKNOWN_TERM);
-    }
+    });
 }
 
 #[test]
 fn an_unknown_term_at_either_end_refuses_a_list_of_65_536() {
-    let mut sides = Sides::start();
-    let random = &mut Random::new(1);
-    sides.lend("seed 1".into(), agreeing(random));
-    let terms = sides.counts.terms;
-    let list = flip_list_of(FlipListKind::AtLimit, &NARROW, terms, random);
-    for place in [0, 65_535] {
-        sides.refuse(&with(list.clone(), place, terms), UNKNOWN_TERM);
-    }
+    for_each_file([1], agreeing, |sides, random| {
+        let terms = sides.counts.terms;
+        let list = flip_list_of(FlipListKind::AtLimit, &NARROW, terms, random);
+        for place in [0, 65_535] {
+            sides.refuse(&with(list.clone(), place, terms), UNKNOWN_TERM);
+        }
+    });
 }
 
 #[test]
@@ -73,30 +69,24 @@ fn a_table_too_short_is_reason_1_whatever_else_is_wrong() {
 
 #[test]
 fn a_list_too_long_is_reason_14_on_tables_that_disagree_too() {
-    let mut sides = Sides::start();
-    for seed in 0..3 {
-        for make in [agreeing, disagreeing] {
-            let random = &mut Random::new(seed);
-            sides.lend(format!("seed {seed}"), make(random));
+    for make in [agreeing, disagreeing] {
+        for_each_file(0..3, make, |sides, random| {
             let terms = sides.counts.terms;
             let list = too_long(terms, random);
             sides.refuse(&list, LIST_TOO_LONG);
             sides.refuse(&with(list.clone(), 0, terms), LIST_TOO_LONG);
             sides.refuse(&with(list, 65_536, terms), LIST_TOO_LONG);
-        }
+        });
     }
 }
 
 #[test]
 fn tables_that_disagree_are_reason_12_for_an_unknown_term_and_the_empty_list_too() {
-    let mut sides = Sides::start();
-    for seed in 0..FILES {
-        let random = &mut Random::new(seed);
-        sides.lend(format!("seed {seed}"), disagreeing(random));
+    for_each_file(0..FILES, disagreeing, |sides, random| {
         let terms = sides.counts.terms;
         let list = few_flips(terms, random);
         sides.refuse(&[], TABLES_DISAGREE);
         sides.refuse(&with(list.clone(), 0, terms), TABLES_DISAGREE);
         sides.refuse(&with(list, 0, 65_535), TABLES_DISAGREE);
-    }
+    });
 }

@@ -7,6 +7,7 @@ use boundary::{Lent, Runs, Sides, NARROW};
 use oracle::generate::limit_texts::text_full_of_all;
 use oracle::generate::names::{distinct_names, NameStyle};
 use oracle::generate::{input_of, InputKind, Random};
+use oracle::reasons::TOO_MANY_TERMS;
 use oracle::Counts;
 
 const SHEET: &[u8] = b"seed=1\nflips=10\nwalks=1\nbias=400\n";
@@ -79,14 +80,16 @@ fn the_longest_answer_is_printed_whole() {
     }
 }
 
-/// Such texts are seldom covered so soon.
+/// None of these is covered so soon.
 #[test]
-fn texts_full_to_every_limit_are_run() {
+fn texts_full_to_every_limit_are_walked_on_and_one_term_more_is_reason_6() {
     let mut runs = Runs::start();
     for seed in 0..4 {
         let full = text_full_of_all(&NARROW, &mut Random::new(seed));
-        runs.run(&then(SHEET, &full));
-        runs.run(&then(SHEET, &then(&full, b"newterm1\n")));
+        let printed = runs.run(&then(SHEET, &full));
+        assert!(printed.starts_with(b"result=gaveup\nwalks=1\nflips=10\n"));
+        let more = then(&full, b"newterm1\n");
+        runs.refuses(&then(SHEET, &more), TOO_MANY_TERMS, 8_193);
     }
 }
 

@@ -4,43 +4,31 @@ use boundary::rubbish::rubbish_output;
 use boundary::tally::share_out;
 use boundary::{few_flips, Sides, Tally, NARROW};
 use oracle::generate::*;
+use oracle::kinds;
 use oracle::reasons::NONE;
 use oracle::sheet::read_sheet;
 
 const FILES: u64 = 200;
 const CALLS_ON_EACH: u64 = 25;
 
-/// What a call came to.
-#[derive(Clone, Copy, Debug, PartialEq, Eq, PartialOrd, Ord)]
-enum Done {
-    Read,
-    ReadingRefused,
-    Flipped,
-    ListRefused,
-    Found,
-    GaveUp,
-    WalkRefused,
-    RunFound,
-    RunGaveUp,
-    RunTextRefused,
-    RunSheetRefused,
+kinds! {
+    /// What a call came to.
+    enum Done {
+        Read,
+        ReadingRefused,
+        Flipped,
+        ListRefused,
+        Found,
+        GaveUp,
+        WalkRefused,
+        RunFound,
+        RunGaveUp,
+        RunTextRefused,
+        RunSheetRefused,
+    }
 }
 
 use Done::*;
-
-const ALL: [Done; 11] = [
-    Read,
-    ReadingRefused,
-    Flipped,
-    ListRefused,
-    Found,
-    GaveUp,
-    WalkRefused,
-    RunFound,
-    RunGaveUp,
-    RunTextRefused,
-    RunSheetRefused,
-];
 
 fn read_some(sides: &mut Sides, kind: TextKind, random: &mut Random) -> Done {
     match sides.read(&clause_text_of(kind, &NARROW, random)).reason {
@@ -97,9 +85,8 @@ fn call_some(sides: &mut Sides, random: &mut Random) -> Done {
 
 /// Every two that can follow each other; after a text was refused no clause stands.
 fn pairs() -> impl Iterator<Item = (Done, Done)> {
-    let all = ALL
-        .into_iter()
-        .flat_map(|before| ALL.map(|after| (before, after)));
+    let befores = Done::ALL.into_iter();
+    let all = befores.flat_map(|before| Done::ALL.map(|after| (before, after)));
     all.filter(|(before, after)| {
         let none_stands = [ReadingRefused, RunTextRefused].contains(before);
         !none_stands || ![Flipped, Found, GaveUp].contains(after)

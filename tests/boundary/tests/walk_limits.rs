@@ -1,8 +1,8 @@
 //! Walks by orders and on files that reach as far as there may be.
 
 use boundary::texts::{first_names, negated, one_line, unit_lines};
-use boundary::walk_kinds::{walk_and_note, Kinds};
-use boundary::{full_tables, holding, order_for, Sides, Tally, NARROW};
+use boundary::walk_kinds::{walk_and_note, Kinds, Met::*};
+use boundary::{for_each_file, full_tables, holding, order_for, Sides, Tally, NARROW};
 use oracle::generate::*;
 use oracle::Order;
 
@@ -44,7 +44,7 @@ fn a_walk_far_on_may_find() {
         let order = order_for(0, 1_000, 400);
         walk_and_note(&mut sides, &Order { seed, ..order }, &mut met);
     }
-    met.expect([("found in a later walk", 15)]);
+    met.expect([(FoundInALaterWalk, 15)]);
 }
 
 /// Few flips, since each takes the independent program long on these.
@@ -73,20 +73,17 @@ fn walks_on_files_that_meet_one_limit_end_as_the_independent_program_ends_them()
             compare_some_orders(&mut sides, random, &mut met);
         }
     }
-    met.expect([("walk", 96), ("heads in a longer clause", 15)]);
-    met.expect([("tails and several at the least", 8)]);
+    met.expect([(Walk, 96), (HeadsInALongerClause, 15)]);
+    met.expect([(TailsAndSeveralAtTheLeast, 8)]);
 }
 
 #[test]
 fn walks_on_files_that_meet_every_limit_end_as_the_independent_program_ends_them() {
-    let mut sides = Sides::start();
     let mut met = Kinds::default();
-    for seed in 0..8 {
-        let random = &mut Random::new(seed);
-        sides.lend(format!("seed {seed}"), full_tables(random));
-        compare_some_orders(&mut sides, random, &mut met);
-    }
-    met.expect([("walk", 32), ("one that breaks nothing", 50)]);
+    for_each_file(0..8, full_tables, |sides, random| {
+        compare_some_orders(sides, random, &mut met);
+    });
+    met.expect([(Walk, 32), (OneBreaksNothing, 50)]);
 }
 
 /// One term alone, so that the list, the places and a break count reach their highest numbers; from seed 1 it starts at 1.

@@ -1,7 +1,7 @@
 //! Orders that are refused, and which reason comes first.
 
 use boundary::lengths::for_each_shorter;
-use boundary::{agreeing, disagreeing, few_steps, holding, Sides, ORDER};
+use boundary::{agreeing, disagreeing, few_steps, for_each_file, holding, Sides, ORDER};
 use oracle::generate::*;
 use oracle::reasons::{NONE, OUT_OF_RANGE, TABLES_DISAGREE, TABLE_TOO_SHORT};
 use oracle::{Counts, Order};
@@ -54,14 +54,12 @@ fn orders_at_the_ends() -> Vec<Order> {
 
 #[test]
 fn each_number_out_of_its_range_is_reason_11() {
-    let mut sides = Sides::start();
-    for seed in 0..FILES {
-        sides.lend(format!("seed {seed}"), agreeing(&mut Random::new(seed)));
+    for_each_file(0..FILES, agreeing, |sides, _| {
         for order in orders_with_one_number_out() {
             sides.refuse_order(&order, OUT_OF_RANGE);
         }
         assert_eq!(sides.walk(&ORDER).reason, NONE);
-    }
+    });
 }
 
 /// On a file that is soon found, so that the longest orders end.
@@ -83,29 +81,23 @@ fn each_number_at_an_end_of_its_range_is_walked_by() {
 
 #[test]
 fn several_numbers_out_of_their_ranges_are_reason_11() {
-    let mut sides = Sides::start();
-    for seed in 0..FILES {
-        let random = &mut Random::new(seed);
-        sides.lend(format!("seed {seed}"), agreeing(random));
+    let all = Order {
+        seed: 0,
+        flips: LAST,
+        walks: 0,
+        bias: LAST,
+    };
+    for_each_file(0..FILES, agreeing, |sides, random| {
         for _ in 0..10 {
             sides.refuse_order(&order_of(OrderKind::ManyOut, random), OUT_OF_RANGE);
         }
-        let all = Order {
-            seed: 0,
-            flips: LAST,
-            walks: 0,
-            bias: LAST,
-        };
         sides.refuse_order(&all, OUT_OF_RANGE);
-    }
+    });
 }
 
 #[test]
 fn tables_that_disagree_are_reason_12_and_11_before_it() {
-    let mut sides = Sides::start();
-    for seed in 0..FILES {
-        let random = &mut Random::new(seed);
-        sides.lend(format!("seed {seed}"), disagreeing(random));
+    for_each_file(0..FILES, disagreeing, |sides, random| {
         for order in orders_at_the_ends() {
             sides.refuse_order(&order, TABLES_DISAGREE);
         }
@@ -113,7 +105,7 @@ fn tables_that_disagree_are_reason_12_and_11_before_it() {
             sides.refuse_order(&order, OUT_OF_RANGE);
         }
         sides.refuse_order(&few_steps(random), TABLES_DISAGREE);
-    }
+    });
 }
 
 #[test]
@@ -141,12 +133,10 @@ fn counts_of_any_32_bits_come_back_from_a_refusal() {
     for seed in 0..40 {
         let random = &mut Random::new(seed);
         let (_, mut tables) = agreeing(random);
-        let counts = Counts {
-            terms: any_count(random),
-            clauses: any_count(random),
-            literals: any_count(random),
-            uncovered: any_count(random),
-        };
+        let mut counts = Counts::default();
+        for count in counts.all_mut() {
+            *count = any_count(random);
+        }
         sides.lend(format!("seed {seed}"), (counts, tables.clone()));
         sides.refuse_order(&ORDER, TABLES_DISAGREE);
         sides.refuse_order(&Order { walks: 0, ..ORDER }, OUT_OF_RANGE);

@@ -2,74 +2,32 @@
 
 use boundary::tally::share_out;
 use boundary::texts::{first_names, then};
-use boundary::walk_kinds::{walk_and_note, Kinds};
-use boundary::{agreeing, holding, Lent, Sides};
+use boundary::walk_kinds::{walk_and_note, Kinds, Met, Met::*};
+use boundary::{agreeing, for_each_file, holding, Lent, Sides};
 use oracle::generate::lines::{random_lines, write};
 use oracle::generate::*;
 
 const FILES: u64 = 2_000;
 const ORDERS_ON_EACH: u64 = 4;
 
-/// What an order, the end of a walk and a step can be.
-const ORDERS: [&str; 16] = [
-    "the first seed",
-    "the last seed",
-    "another seed",
-    "no flip allowed",
-    "one flip allowed",
-    "two flips allowed",
-    "few flips allowed",
-    "many flips allowed",
-    "one walk allowed",
-    "two walks allowed",
-    "three walks allowed",
-    "four walks allowed",
-    "five walks allowed, or more",
-    "bias 0",
-    "bias 400",
-    "bias 1,000",
-];
-const ENDS: [&str; 8] = [
-    "gave up after one walk",
-    "gave up after several walks",
-    "found in the first walk",
-    "found in a later walk",
-    "found with no flip allowed",
-    "found before a flip",
-    "found by the last flip allowed",
-    "found by an earlier flip",
-];
-const STEPS: [&str; 7] = [
-    "one uncovered clause",
-    "heads in a clause of one",
-    "heads in a longer clause",
-    "tails and one at the least",
-    "tails and several at the least",
-    "one that breaks nothing",
-    "several that break nothing",
-];
-
 /// Walks on the file of each seed; notes what the walks were.
 fn compare_files(seeds: &[u64]) -> Kinds {
-    let mut sides = Sides::start();
     let mut met = Kinds::default();
-    for seed in seeds {
-        let random = &mut Random::new(*seed);
-        sides.lend(format!("seed {seed}"), agreeing(random));
+    for_each_file(seeds.iter().copied(), agreeing, |sides, random| {
         for _ in 0..ORDERS_ON_EACH {
-            walk_and_note(&mut sides, &order_in_range(random), &mut met);
+            walk_and_note(sides, &order_in_range(random), &mut met);
         }
-    }
+    });
     met
 }
 
 #[test]
 fn eight_thousand_random_walks_end_as_the_independent_program_ends_them() {
     let met = share_out(FILES, compare_files);
-    met.expect([("walk", 8_000), ("a term in no clause", 1_000)]);
-    met.expect(ORDERS.map(|kind| (kind, 700)));
-    met.expect(ENDS.map(|kind| (kind, 100)));
-    met.expect(STEPS.map(|kind| (kind, 7_000)));
+    met.expect([(Walk, 8_000), (TermInNoClause, 1_000)]);
+    met.expect(Met::ORDERS.map(|kind| (kind, 700)));
+    met.expect(Met::ENDS.map(|kind| (kind, 100)));
+    met.expect(Met::STEPS.map(|kind| (kind, 7_000)));
 }
 
 /// A file of so many terms, all of them known from a first line that is dropped, so that some may stand in no clause.
@@ -97,7 +55,7 @@ fn walks_over_1_to_65_terms_and_2_048_end_as_the_independent_program_ends_them()
                 walk_and_note(&mut sides, &order_in_range(random), &mut met);
             }
         }
-        let found = met.times("found in the first walk") + met.times("found in a later walk");
-        assert!(found > 0 && found < met.times("walk"), "{terms} {met:?}");
+        let found = met.times(FoundInTheFirstWalk) + met.times(FoundInALaterWalk);
+        assert!(found > 0 && found < met.times(Walk), "{terms} {met:?}");
     }
 }

@@ -1,6 +1,8 @@
 //! Prints calls with what they answer and leave, as rows of an antt table: `rows SEED COUNT`.
 //! `tools/compare_written.py` has the prover compute them from the definitions.
 
+use std::fmt::Display;
+
 use oracle::flips::flip;
 use oracle::generate::{flip_case, read_case, run_case, walk_case, Random};
 use oracle::reading::read;
@@ -51,19 +53,12 @@ fn reading(random: &mut Random) -> Option<String> {
     }
     let mut after = case.tables.clone();
     let told = read(&LIMITS, &case.text, &mut after);
+    let numbers = [told.result, told.reason, told.line, 0, 0];
     Some(format!(
         "(reading {} {}) tells {}",
-        bytes(&case.text),
+        list(&case.text),
         tables(&case.tables),
-        seen(
-            told.result,
-            told.reason,
-            told.line,
-            0,
-            0,
-            &told.counts,
-            &after
-        ),
+        seen(numbers, &told.counts, &after),
     ))
 }
 
@@ -74,24 +69,13 @@ fn walking(random: &mut Random) -> Option<String> {
     }
     let mut after = case.tables.clone();
     let told = walk(&LIMITS, &case.order, case.counts, &mut after);
-    let order = case.order;
+    let numbers = [told.result, told.reason, 0, told.walks, told.flips];
     Some(format!(
-        "(walking (order {} {} {} {}) {} {}) tells {}",
-        order.seed,
-        order.flips,
-        order.walks,
-        order.bias,
+        "(walking (order {}) {} {}) tells {}",
+        spaced(&case.order.all()),
         counts(&case.counts),
         tables(&case.tables),
-        seen(
-            told.result,
-            told.reason,
-            0,
-            told.walks,
-            told.flips,
-            &told.counts,
-            &after
-        ),
+        seen(numbers, &told.counts, &after),
     ))
 }
 
@@ -104,7 +88,7 @@ fn flipping(random: &mut Random) -> Option<String> {
         list(&case.list),
         counts(&case.counts),
         tables(&case.tables),
-        seen(told.result, told.reason, 0, 0, 0, &told.counts, &after),
+        seen([told.result, told.reason, 0, 0, 0], &told.counts, &after),
     ))
 }
 
@@ -117,11 +101,11 @@ fn running(random: &mut Random) -> Option<String> {
     let length = run_on(&LIMITS, &case.input, &mut after, &mut out);
     Some(format!(
         "(running {} {} {}) tells (ran {length} {} {})",
-        bytes(&case.input),
+        list(&case.input),
         tables(&case.tables),
-        bytes(&case.out),
+        list(&case.out),
         tables(&after),
-        bytes(&out),
+        list(&out),
     ))
 }
 
@@ -136,45 +120,26 @@ fn walks_long(input: &[u8]) -> bool {
     number("flips=").saturating_mul(number("walks=")) > FLIPS
 }
 
-fn seen(
-    result: u64,
-    reason: u64,
-    line: u64,
-    walks: u64,
-    flips: u64,
-    left: &Counts,
-    after: &Tables,
-) -> String {
-    format!(
-        "(seen {result} {reason} {line} {walks} {flips} {} {})",
-        counts(left),
-        tables(after)
-    )
+/// Result, reason, line, walks and flips, then what is left.
+fn seen(numbers: [u64; 5], left: &Counts, after: &Tables) -> String {
+    let numbers = spaced(&numbers);
+    format!("(seen {numbers} {} {})", counts(left), tables(after))
 }
 
 fn counts(counts: &Counts) -> String {
-    format!(
-        "(counts {} {} {} {})",
-        counts.terms, counts.clauses, counts.literals, counts.uncovered
-    )
+    format!("(counts {})", spaced(&counts.all()))
 }
 
 fn tables(tables: &Tables) -> String {
-    let entries: Vec<String> = tables.all().iter().map(|table| list(table)).collect();
-    format!("(lent {})", entries.join(" "))
+    format!("(lent {})", spaced(&tables.all().map(|table| list(table))))
 }
 
-fn bytes(bytes: &[u8]) -> String {
-    list(
-        &bytes
-            .iter()
-            .map(|byte| u64::from(*byte))
-            .collect::<Vec<u64>>(),
-    )
+fn spaced(words: &[impl ToString]) -> String {
+    let words: Vec<String> = words.iter().map(ToString::to_string).collect();
+    words.join(" ")
 }
 
-fn list(entries: &[u64]) -> String {
-    let mut joined: String = entries.iter().map(|entry| format!("{entry} ∷ ")).collect();
-    joined.push_str("[]");
-    format!("({joined})")
+fn list(entries: &[impl Display]) -> String {
+    let joined: String = entries.iter().map(|entry| format!("{entry} ∷ ")).collect();
+    format!("({joined}[])")
 }

@@ -36,7 +36,7 @@ impl Generator {
 }
 
 /// One draw: left 13, right 17, left 5, "each kept to 32 bits".
-pub fn drawn_from(state: u32) -> u32 {
+fn drawn_from(state: u32) -> u32 {
     let mut y = state;
     y ^= y << 13;
     y ^= y >> 17;

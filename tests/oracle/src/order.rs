@@ -19,6 +19,18 @@ pub struct Order {
 }
 
 impl Order {
+    /// Document 01's examples: "Numbers are those above unless said."
+    pub const EXAMPLE: Order = Order {
+        seed: 1,
+        flips: 10,
+        walks: 1,
+        bias: 400,
+    };
+
+    pub fn all(&self) -> [u64; 4] {
+        [self.seed, self.flips, self.walks, self.bias]
+    }
+
     pub fn is_in_range(&self) -> bool {
         SEEDS.contains(&self.seed)
             && FLIPS.contains(&self.flips)

@@ -3,8 +3,8 @@
 use crate::reasons::{BYTE_NOT_ALLOWED, NINTH_BYTE, TEXT_CUT};
 
 pub const LINE_FEED: u8 = 10;
-pub const SPACE: u8 = 32;
-pub const TILDE: u8 = 126;
+const SPACE: u8 = 32;
+const TILDE: u8 = 126;
 /// "a name of 1 to 8 bytes"
 pub const LONGEST_NAME: usize = 8;
 

@@ -15,7 +15,7 @@ pub const LINES: [(&str, RangeInclusive<u64>); 4] = [
 ];
 
 /// "A number has 1 to 10 digits".
-pub const MOST_DIGITS: usize = 10;
+const MOST_DIGITS: usize = 10;
 
 /// Result 1 is accepted, 0 refused; "a refused sheet zeros".
 #[derive(Clone, Copy, Debug, PartialEq, Eq)]

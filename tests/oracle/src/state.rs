@@ -28,11 +28,11 @@ pub fn opposite(literal: usize) -> usize {
 
 impl State {
     /// Of a term's two literals the true one.
-    pub fn true_literal(&self, term: usize) -> usize {
+    fn true_literal(&self, term: usize) -> usize {
         2 * term + usize::from(!self.values[term])
     }
 
-    pub fn is_true(&self, literal: usize) -> bool {
+    fn is_true(&self, literal: usize) -> bool {
         literal == self.true_literal(term_of(literal))
     }
 
@@ -192,6 +192,6 @@ pub fn as_entries(indexes: &[usize]) -> Vec<u64> {
     indexes.iter().map(|index| *index as u64).collect()
 }
 
-pub fn as_indexes(entries: &[u64]) -> Vec<usize> {
+fn as_indexes(entries: &[u64]) -> Vec<usize> {
     entries.iter().map(|entry| *entry as usize).collect()
 }

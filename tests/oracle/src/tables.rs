@@ -90,6 +90,19 @@ impl Tables {
 }
 
 impl Counts {
+    pub fn all(&self) -> [u64; 4] {
+        [self.terms, self.clauses, self.literals, self.uncovered]
+    }
+
+    pub fn all_mut(&mut self) -> [&mut u64; 4] {
+        [
+            &mut self.terms,
+            &mut self.clauses,
+            &mut self.literals,
+            &mut self.uncovered,
+        ]
+    }
+
     /// How many entries of each table are in use; the counts must be within their limits.
     pub fn in_use(&self) -> [usize; 10] {
         let (terms, clauses) = (self.terms as usize, self.clauses as usize);

@@ -4,8 +4,12 @@ mod common;
 
 use common::*;
 use oracle::draw::{choice, draw};
+use oracle::flips::flip;
 use oracle::walk::walk;
 use oracle::{Limits, Order};
+
+/// What the program's example prints.
+const FOUND_BY_ONE_FLIP: &str = "result=found\nwalks=1\nflips=1\nchosen=2\nanswer=a b\n";
 
 #[test]
 fn seed_1_draws_270369_then_67634689_then_2647435461() {
@@ -37,7 +41,7 @@ fn a_b_and_not_a_b_start_with_a_only_and_clause_1_uncovered() {
 #[test]
 fn a_b_and_not_a_b_find_by_flipping_b() {
     let (answer, tables) = walked("a b\n~a b\n", &ORDER);
-    assert_eq!((answer.result, answer.walks, answer.flips), (1, 1, 1));
+    assert_eq!(ended(answer), [1, 1, 1]);
     assert_eq!(answer.counts.uncovered, 0);
     assert_eq!(tables.values[0], 3);
 }
@@ -45,29 +49,25 @@ fn a_b_and_not_a_b_find_by_flipping_b() {
 #[test]
 fn a_and_not_a_with_two_flips_give_up() {
     let (answer, _) = walked("a\n~a\n", &Order { flips: 2, ..ORDER });
-    assert_eq!((answer.result, answer.walks, answer.flips), (2, 1, 2));
+    assert_eq!(ended(answer), [2, 1, 2]);
 }
 
 #[test]
 fn a_a_is_one_clause_of_one_literal() {
     let (counts, tables) = accepted("a a\n");
-    assert_eq!((counts.terms, counts.clauses, counts.literals), (1, 1, 1));
+    assert_eq!(held(counts), [1, 1, 1]);
     assert_eq!(tables.starts[..2], [0, 1]);
 }
 
 #[test]
 fn a_not_a_then_b_is_one_clause_and_two_terms() {
     let (counts, _) = accepted("a ~a\nb\n");
-    assert_eq!((counts.terms, counts.clauses, counts.literals), (2, 1, 1));
+    assert_eq!(held(counts), [2, 1, 1]);
 }
 
 #[test]
 fn a_not_a_then_b_is_found_after_one_flip_with_answer_a_b() {
-    let lines = printed(GOOD_SHEET, "a ~a\nb\n");
-    assert_eq!(
-        lines,
-        "result=found\nwalks=1\nflips=1\nchosen=2\nanswer=a b\n"
-    );
+    assert_eq!(printed(GOOD_SHEET, "a ~a\nb\n"), FOUND_BY_ONE_FLIP);
 }
 
 #[test]
@@ -110,7 +110,7 @@ fn an_empty_line_alone_is_reason_9() {
 #[test]
 fn a_then_an_empty_line_is_one_clause() {
     let (counts, _) = accepted("a\n\n");
-    assert_eq!((counts.terms, counts.clauses, counts.literals), (1, 1, 1));
+    assert_eq!(held(counts), [1, 1, 1]);
 }
 
 #[test]
@@ -238,17 +238,13 @@ fn assert_reason_11(order: Order) {
 #[test]
 fn flips_0_with_a_covering_start_is_found() {
     let (answer, tables) = walked("a ~b\n", &Order { flips: 0, ..ORDER });
-    assert_eq!((answer.result, answer.walks, answer.flips), (1, 1, 0));
+    assert_eq!(ended(answer), [1, 1, 0]);
     assert_eq!(tables.values[0], 1);
 }
 
 #[test]
 fn the_program_prints_the_whole_example() {
-    let lines = printed(GOOD_SHEET, "a b\n~a b\n");
-    assert_eq!(
-        lines,
-        "result=found\nwalks=1\nflips=1\nchosen=2\nanswer=a b\n"
-    );
+    assert_eq!(printed(GOOD_SHEET, "a b\n~a b\n"), FOUND_BY_ONE_FLIP);
 }
 
 #[test]
@@ -280,9 +276,9 @@ fn error_a_repeated_literal_is_not_counted_twice() {
 #[test]
 fn error_the_break_count_falls_on_the_term_that_stood_alone() {
     let (counts, mut tables) = accepted("a b\n");
-    let first = oracle::flips::flip(&NARROW, &[0], counts, &mut tables);
+    let first = flip(&NARROW, &[0], counts, &mut tables);
     assert_eq!(tables.breaks[..2], [1, 0]);
-    oracle::flips::flip(&NARROW, &[1], first.counts, &mut tables);
+    flip(&NARROW, &[1], first.counts, &mut tables);
     assert_eq!(tables.breaks[..2], [0, 0]);
     assert_eq!(tables.trues[0], 2);
 }
@@ -291,7 +287,7 @@ fn error_the_break_count_falls_on_the_term_that_stood_alone() {
 fn error_the_place_of_the_entry_that_moves_is_corrected() {
     let (counts, mut tables) = accepted("a\nb\nc\n");
     assert_eq!(tables.uncovered[..3], [0, 1, 2]);
-    let answer = oracle::flips::flip(&NARROW, &[0], counts, &mut tables);
+    let answer = flip(&NARROW, &[0], counts, &mut tables);
     assert_eq!(answer.counts.uncovered, 2);
     assert_eq!(tables.uncovered[..3], [2, 1, 0]);
     assert_eq!(tables.places[..3], [0, 1, 0]);
@@ -301,11 +297,11 @@ fn error_the_place_of_the_entry_that_moves_is_corrected() {
 fn step_5_lets_clauses_leave_first_and_puts_new_ones_at_the_end() {
     let (counts, mut tables) = accepted("a\nb\n~a\nc\n~a ~c\n");
     assert_eq!(tables.uncovered[..4], [0, 1, 3, 0]);
-    let first = oracle::flips::flip(&NARROW, &[0], counts, &mut tables);
+    let first = flip(&NARROW, &[0], counts, &mut tables);
     assert_eq!(first.counts.uncovered, 3);
     assert_eq!(tables.uncovered[..4], [3, 1, 2, 0]);
     assert_eq!(tables.places[..5], [0, 1, 2, 0, 0]);
-    let second = oracle::flips::flip(&NARROW, &[2], first.counts, &mut tables);
+    let second = flip(&NARROW, &[2], first.counts, &mut tables);
     assert_eq!(second.counts.uncovered, 3);
     assert_eq!(tables.uncovered[..4], [2, 1, 4, 0]);
     assert_eq!(tables.places[..5], [0, 1, 0, 0, 2]);

@@ -2,7 +2,7 @@
 
 mod common;
 
-use std::collections::{BTreeMap, BTreeSet, HashMap};
+use std::collections::{BTreeMap, BTreeSet};
 
 use common::*;
 use oracle::agree::agree;
@@ -48,8 +48,6 @@ fn texts_one_past_a_limit_are_refused_for_it() {
         (TextKind::TermsPastLimit, TOO_MANY_TERMS),
         (TextKind::ClausesPastLimit, TOO_MANY_CLAUSES),
         (TextKind::LiteralsPastLimit, TOO_MANY_LITERALS),
-        (TextKind::Empty, NO_CLAUSE),
-        (TextKind::NothingKept, NO_CLAUSE),
     ];
     for seed in 0..12 {
         for (kind, reason) in reasons {
@@ -62,14 +60,27 @@ fn texts_one_past_a_limit_are_refused_for_it() {
     }
 }
 
-/// How often each reason is met for texts of this kind.
-fn reasons_of(kind: TextKind, cases: u64) -> BTreeMap<u64, u64> {
-    let mut met = BTreeMap::new();
-    for seed in 0..cases {
-        let text = clause_text_of(kind, &NARROW, &mut Random::new(seed));
-        *met.entry(read_narrow(text).0.reason).or_insert(0) += 1;
+/// The reasons that texts of this kind meet.
+fn reasons_of(kind: TextKind, cases: u64) -> BTreeSet<u64> {
+    let text = |seed| clause_text_of(kind, &NARROW, &mut Random::new(seed));
+    let reasons = (0..cases).map(|seed| read_narrow(text(seed)).0.reason);
+    reasons.collect()
+}
+
+#[test]
+fn texts_with_nothing_to_keep_are_refused_for_it() {
+    for kind in [TextKind::Empty, TextKind::NothingKept] {
+        assert_eq!(reasons_of(kind, 12), [NO_CLAUSE].into(), "{kind:?}");
     }
-    met
+}
+
+/// Texts of each kind meet each of its reasons.
+fn assert_meet(expected: &[(TextKind, &[u64])], cases: u64) {
+    for (kind, reasons) in expected {
+        let met = reasons_of(*kind, cases);
+        let all = reasons.iter().all(|reason| met.contains(reason));
+        assert!(all, "{kind:?} {met:?}");
+    }
 }
 
 #[test]
@@ -82,13 +93,7 @@ fn lines_after_a_full_limit_are_accepted_or_refused_in_every_way() {
         (TextKind::TermsAndLiteralsFullThenMore, &[0, 4, 5, 6, 7]),
         (TextKind::AllFullThenMore, &[0, 4, 5, 6, 7]),
     ];
-    for (kind, reasons) in expected {
-        let met = reasons_of(kind, 60);
-        assert!(
-            reasons.iter().all(|reason| met.contains_key(reason)),
-            "{kind:?} {met:?}"
-        );
-    }
+    assert_meet(&expected, 60);
 }
 
 #[test]
@@ -104,13 +109,7 @@ fn faulty_texts_meet_their_faults() {
         (TextKind::FewLetters, &[0, 3, 4, 9]),
         (TextKind::AnyBytes, &[3, 4]),
     ];
-    for (kind, reasons) in expected {
-        let met = reasons_of(kind, 300);
-        assert!(
-            reasons.iter().all(|reason| met.contains_key(reason)),
-            "{kind:?} {met:?}"
-        );
-    }
+    assert_meet(&expected, 300);
 }
 
 #[test]
@@ -163,6 +162,7 @@ fn each_kind_of_input_does_what_it_says() {
             InputKind::FewLetters => (&[0, 3, 4, 5, 9], &[0, 3, 4, 9]),
             InputKind::AnyText => (&[0, 2, 3, 4, 5, 6, 7, 8, 9], &[0, 3, 4, 5]),
             InputKind::AnySheet => (&[0, 3, 4, 5, 9, 10, 11], &[0, 10, 11]),
+            InputKind::AnySheetAnyText => (&[0, 2, 3, 4, 5, 6, 7, 8, 9, 10, 11], &[0, 4, 10, 11]),
             InputKind::SheetAfterSheet => (&[0, 4, 5], &[0, 4, 5]),
             InputKind::BytesPastLimit => (&[2], &[2]),
             InputKind::ChangedBytes => (&[0, 3, 4, 5, 10, 11], &[0, 4, 10]),
@@ -171,17 +171,11 @@ fn each_kind_of_input_does_what_it_says() {
             InputKind::DoubledBytes => (&[0, 3, 4, 5, 10, 11], &[0, 5, 10, 11]),
             InputKind::Cut => (&[0, 3, 9, 10], &[3, 10]),
             InputKind::AnyBytes | InputKind::Empty => (&[10], &[10]),
-            InputKind::AnySheetAnyText => continue,
         };
         let met = reasons_of_inputs(kind);
-        assert!(
-            met.iter().all(|reason| only.contains(reason)),
-            "{kind:?} {met:?}"
-        );
-        assert!(
-            some.iter().all(|reason| met.contains(reason)),
-            "{kind:?} {met:?}"
-        );
+        let within = met.iter().all(|reason| only.contains(reason));
+        let all = some.iter().all(|reason| met.contains(reason));
+        assert!(within && all, "{kind:?} {met:?}");
     }
 }
 
@@ -240,7 +234,8 @@ fn each_kind_of_lent_tables_does_what_it_says() {
 
 #[test]
 fn each_kind_of_damage_does_what_it_says() {
-    let mut verdicts: HashMap<String, BTreeSet<bool>> = HashMap::new();
+    use DamageKind::*;
+    let mut verdicts: BTreeMap<DamageKind, BTreeSet<bool>> = BTreeMap::new();
     for seed in 0..400 {
         for kind in DamageKind::ALL {
             let random = &mut Random::new(seed);
@@ -249,23 +244,17 @@ fn each_kind_of_damage_does_what_it_says() {
             damage_of(kind, &SMALL, &mut counts, &mut tables, random);
             let verdict = agree(&SMALL, &counts, &tables);
             let unchanged = before == (counts, tables.clone());
-            assert_eq!(
-                tables.reach_full_size(&SMALL),
-                kind != DamageKind::OneShorter
-            );
+            assert_eq!(tables.reach_full_size(&SMALL), kind != OneShorter);
             assert_verdict(kind, verdict, unchanged);
-            verdicts
-                .entry(format!("{kind:?}"))
-                .or_default()
-                .insert(verdict);
+            verdicts.entry(kind).or_default().insert(verdict);
         }
     }
-    for both in ["EntryInUse", "EntriesSwapped", "ValueTurned"] {
-        assert_eq!(verdicts[both].len(), 2, "{both}");
+    for both in [EntryInUse, EntriesSwapped, ValueTurned] {
+        assert_eq!(verdicts[&both].len(), 2, "{both:?}");
     }
     for (kind, met) in verdicts {
-        let none = ["None", "NameOther", "ListReordered", "Longer"].contains(&kind.as_str());
-        assert_eq!(met.contains(&false), !none, "{kind}");
+        let none = [None, NameOther, ListReordered, Longer].contains(&kind);
+        assert_eq!(met.contains(&false), !none, "{kind:?}");
     }
 }
 

@@ -9,6 +9,8 @@ use oracle::agree::agree;
 use oracle::draw::{choice, draw, heads};
 use oracle::flips::flip;
 use oracle::generate::draws::ReaderStep;
+use oracle::generate::lent::lengthen;
+use oracle::generate::lines::opposite_word;
 use oracle::generate::*;
 use oracle::reader::{Reader, Told};
 use oracle::reading::read;
@@ -19,6 +21,9 @@ use oracle::{run, run_on, Counts, Limits, Tables};
 
 /// Cases under the limits of document 01, and under limits that small texts meet.
 const SCALES: [(Limits, u64); 2] = [(NARROW, 400), (SMALL, 3_000)];
+
+/// The four counts and the ten tables of a call.
+type Lent = (Counts, Tables);
 
 fn for_each_case(check: impl Fn(&Limits, &mut Random)) {
     for (limits, cases) in SCALES {
@@ -38,12 +43,8 @@ fn within_full_size(limits: &Limits, tables: &Tables) -> Tables {
 }
 
 fn assert_excess_untouched(limits: &Limits, before: &Tables, after: &Tables) {
-    for ((old, new), size) in before
-        .all()
-        .into_iter()
-        .zip(after.all())
-        .zip(limits.full_sizes())
-    {
+    let pairs = before.all().into_iter().zip(after.all());
+    for ((old, new), size) in pairs.zip(limits.full_sizes()) {
         assert_eq!(old.len(), new.len());
         assert!(old.get(size..) == new.get(size..));
     }
@@ -88,6 +89,19 @@ fn assert_counted_afresh(counts: &Counts, tables: &Tables) {
     assert_eq!(list.iter().copied().collect::<BTreeSet<u64>>(), uncovered);
 }
 
+/// A flip list or a walk that is refused changes nothing; any other leaves the same clauses, counted afresh. Whether it was accepted.
+fn is_accepted(limits: &Limits, result: u64, before: &Lent, after: &Lent) -> bool {
+    assert_excess_untouched(limits, &before.1, &after.1);
+    if result == 0 {
+        assert!(before == after);
+        return false;
+    }
+    assert!(agree(limits, &before.0, &before.1) && agree(limits, &after.0, &after.1));
+    assert_same_clauses(&before.1, &after.1);
+    assert_counted_afresh(&after.0, &after.1);
+    true
+}
+
 #[test]
 fn a_reading_is_accepted_with_agreeing_tables_or_refused_with_zeros() {
     for_each_case(|limits, random| {
@@ -100,9 +114,8 @@ fn a_reading_is_accepted_with_agreeing_tables_or_refused_with_zeros() {
         if answer.result == 1 {
             assert!(agree(limits, &answer.counts, &tables));
             assert_counted_afresh(&answer.counts, &tables);
-            assert!(tables.values[..limits.full_sizes()[1]]
-                .iter()
-                .all(|word| *word == 0));
+            let words = &tables.values[..limits.full_sizes()[1]];
+            assert!(words.iter().all(|word| *word == 0));
             assert!(tables.uncovered[..answer.counts.uncovered as usize].is_sorted());
         } else {
             assert_eq!(answer.counts, Counts::default());
@@ -120,33 +133,21 @@ fn a_reading_is_accepted_with_agreeing_tables_or_refused_with_zeros() {
 #[test]
 fn a_walk_that_finds_covers_every_clause_and_one_that_gives_up_is_spent() {
     for_each_case(|limits, random| {
-        let WalkCase {
-            order,
-            counts,
-            mut tables,
-        } = walk_case(limits, random);
-        let before = tables.clone();
-        let answer = walk(limits, &order, counts, &mut tables);
-        assert_excess_untouched(limits, &before, &tables);
-        if answer.result == 0 {
-            assert!(tables == before);
-            assert_eq!((answer.walks, answer.flips, answer.counts), (0, 0, counts));
+        let mut case = walk_case(limits, random);
+        let (order, before) = (case.order, (case.counts, case.tables.clone()));
+        let answer = walk(limits, &order, case.counts, &mut case.tables);
+        let after = (answer.counts, case.tables);
+        if !is_accepted(limits, answer.result, &before, &after) {
+            assert_eq!(ended(answer), [0, 0, 0]);
             return;
         }
-        assert!(agree(limits, &counts, &before) && agree(limits, &answer.counts, &tables));
-        assert_same_clauses(&before, &tables);
-        assert_counted_afresh(&answer.counts, &tables);
-        let covered = |clause: u64| !true_literals(&tables, clause as usize).is_empty();
-        if answer.result == 1 {
-            assert!((0..counts.clauses).all(covered));
-            assert!((1..=order.walks).contains(&answer.walks));
+        let covered = |clause: u64| !true_literals(&after.1, clause as usize).is_empty();
+        let all_covered = (0..case.counts.clauses).all(covered);
+        if all_covered {
+            assert!(answer.result == 1 && (1..=order.walks).contains(&answer.walks));
             assert!(answer.flips <= answer.walks * order.flips);
         } else {
-            assert!(!(0..counts.clauses).all(covered));
-            assert_eq!(
-                (answer.walks, answer.flips),
-                (order.walks, order.walks * order.flips)
-            );
+            assert_eq!(ended(answer), [2, order.walks, order.walks * order.flips]);
         }
     });
 }
@@ -173,26 +174,17 @@ fn the_steps_told_of_a_walk_are_its_flips() {
 #[test]
 fn a_flip_list_turns_the_terms_named_an_odd_number_of_times() {
     for_each_case(|limits, random| {
-        let FlipCase {
-            list,
-            counts,
-            mut tables,
-        } = flip_case(limits, random);
-        let before = tables.clone();
-        let answer = flip(limits, &list, counts, &mut tables);
-        assert_excess_untouched(limits, &before, &tables);
-        if answer.result == 0 {
-            assert!(tables == before);
-            assert_eq!(answer.counts, counts);
+        let mut case = flip_case(limits, random);
+        let before = (case.counts, case.tables.clone());
+        let answer = flip(limits, &case.list, case.counts, &mut case.tables);
+        let after = (answer.counts, case.tables);
+        if !is_accepted(limits, answer.result, &before, &after) {
             return;
         }
-        assert_same_clauses(&before, &tables);
-        assert!(agree(limits, &answer.counts, &tables));
-        assert_counted_afresh(&answer.counts, &tables);
-        let mut named = vec![0; counts.terms as usize];
-        list.iter().for_each(|term| named[*term as usize] += 1);
+        let mut named = vec![0; case.counts.terms as usize];
+        case.list.iter().for_each(|term| named[*term as usize] += 1);
         for (term, times) in named.into_iter().enumerate() {
-            assert_eq!(bit(&tables, term), bit(&before, term) ^ (times % 2));
+            assert_eq!(bit(&after.1, term), bit(&before.1, term) ^ (times % 2));
         }
     });
 }
@@ -200,8 +192,8 @@ fn a_flip_list_turns_the_terms_named_an_odd_number_of_times() {
 /// An accepted list over standing tables, with the counts and tables before and after it.
 struct Flipped {
     list: Vec<u64>,
-    before: (Counts, Tables),
-    after: (Counts, Tables),
+    before: Lent,
+    after: Lent,
 }
 
 fn flipped(limits: &Limits, random: &mut Random) -> Flipped {
@@ -226,7 +218,7 @@ fn without_list_order(counts: &Counts, tables: &Tables) -> Tables {
 }
 
 /// "only the order within the uncovered list, and the places noted for it, may differ"
-fn assert_same_but_for_order(one: (Counts, Tables), other: (Counts, Tables)) {
+fn assert_same_but_for_order(one: Lent, other: Lent) {
     assert_eq!(one.0, other.0);
     assert!(without_list_order(&one.0, &one.1) == without_list_order(&other.0, &other.1));
 }
@@ -298,20 +290,15 @@ fn move_the_list(counts: &mut Counts, tables: &mut Tables, term: usize) {
 
 #[test]
 fn a_flip_list_moves_the_uncovered_list_as_step_5_says() {
-    for_each_case(|limits, random| {
-        let Flipped {
-            list,
-            before,
-            after,
-        } = flipped(limits, random);
-        let (mut counts, mut tables) = before;
-        for term in list {
+    for_each_flip(|_, _, case| {
+        let (mut counts, mut tables) = case.before;
+        for term in case.list {
             move_the_list(&mut counts, &mut tables, term as usize);
         }
-        assert_eq!(counts, after.0);
-        assert!(tables.values == after.1.values);
-        assert!(tables.uncovered == after.1.uncovered);
-        assert!(tables.places == after.1.places);
+        let (counts_after, after) = case.after;
+        assert_eq!(counts, counts_after);
+        assert!(tables.values == after.values);
+        assert!(tables.uncovered == after.uncovered && tables.places == after.places);
     });
 }
 
@@ -366,19 +353,14 @@ fn agreement_is_judged_alike_when_said_another_way() {
         for seed in 0..cases {
             let WalkCase { counts, tables, .. } = walk_case(&limits, &mut Random::new(seed));
             let verdict = agree(&limits, &counts, &tables);
-            assert_eq!(
-                verdict,
-                agrees_said_another_way(&limits, &counts, &tables),
-                "{seed}"
-            );
+            let said_another_way = agrees_said_another_way(&limits, &counts, &tables);
+            assert_eq!(verdict, said_another_way, "{seed}");
             verdicts[usize::from(verdict)] += 1;
         }
         verdicts
     });
-    assert!(
-        verdicts.concat().iter().all(|met| *met > 100),
-        "{verdicts:?}"
-    );
+    let often = verdicts.concat().iter().all(|met| *met > 100);
+    assert!(often, "{verdicts:?}");
 }
 
 #[test]
@@ -408,13 +390,7 @@ fn what_lies_past_the_full_size_is_never_read() {
         let mut exact = within_full_size(limits, &tables);
         let mut other = exact.clone();
         if exact.reach_full_size(limits) {
-            damage_of(
-                DamageKind::Longer,
-                limits,
-                &mut counts.clone(),
-                &mut other,
-                random,
-            );
+            lengthen(&mut other, limits, random);
         }
         let answers =
             [&mut tables, &mut exact, &mut other].map(|lent| walk(limits, &order, counts, lent));
@@ -426,17 +402,11 @@ fn what_lies_past_the_full_size_is_never_read() {
 
 /// Whether the answer covers a line of the text, judged on words alone.
 fn covers(answer: &BTreeSet<Vec<u8>>, line: &[u8]) -> bool {
-    let words: Vec<&[u8]> = line
-        .split(|byte| *byte == b' ')
-        .filter(|w| !w.is_empty())
-        .collect();
-    let opposite = |word: &[u8]| match word {
-        [b'~', name @ ..] => name.to_vec(),
-        name => [b"~", name].concat(),
-    };
+    let words = line.split(|byte| *byte == b' ');
+    let words: Vec<&[u8]> = words.filter(|word| !word.is_empty()).collect();
     let drops = |index: usize| {
-        let earlier = &words[..index];
-        words[index] == b"~" || earlier.iter().any(|word| opposite(word) == words[index])
+        let opposite = opposite_word(words[index]);
+        words[index] == b"~" || words[..index].contains(&&opposite[..])
     };
     let covering = |index: usize| answer.contains(words[index]) || drops(index);
     words.is_empty() || (0..words.len()).any(covering)

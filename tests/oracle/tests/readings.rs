@@ -9,7 +9,7 @@ use oracle::flips::flip;
 use oracle::reader::{pack, Reader, Told};
 use oracle::sheet::read_sheet;
 use oracle::walk::walk;
-use oracle::{run, Counts, Order, Tables};
+use oracle::{run, Order, Tables};
 
 /// All that a reader tells, up to the end or a fault.
 fn told(text: impl AsRef<[u8]>) -> Vec<(Told, u64)> {
@@ -39,7 +39,7 @@ fn literal(text: &str) -> Told {
 #[test]
 fn any_number_of_spaces_separates_literals() {
     let (counts, tables) = accepted("  a   b  \n");
-    assert_eq!((counts.terms, counts.clauses, counts.literals), (2, 1, 2));
+    assert_eq!(held(counts), [2, 1, 2]);
     assert_eq!(tables.literals[..2], [0, 2]);
 }
 
@@ -55,7 +55,7 @@ fn a_line_may_be_as_long_as_the_text() {
 #[test]
 fn clauses_stay_in_file_order_and_literals_in_reading_order() {
     let (counts, tables) = accepted("b a\n~ note\n~a c\n");
-    assert_eq!((counts.terms, counts.clauses, counts.literals), (3, 2, 4));
+    assert_eq!(held(counts), [3, 2, 4]);
     assert_eq!(tables.names[..3], [98, 97, 99]);
     assert_eq!(tables.starts[..3], [0, 2, 4]);
     assert_eq!(tables.literals[..4], [0, 2, 3, 4]);
@@ -296,7 +296,7 @@ fn point_19_giving_up_leaves_the_last_walks_end() {
         ..ORDER
     };
     let (answer, tables) = walked("a\n~a\nb\n", &order);
-    assert_eq!((answer.result, answer.walks, answer.flips), (2, 2, 0));
+    assert_eq!(ended(answer), [2, 2, 0]);
     assert_eq!(tables.values[0], 67634689 & 3);
     let uncovered = tables.uncovered[..answer.counts.uncovered as usize].to_vec();
     assert_eq!(uncovered, [1, 2]);
@@ -343,7 +343,9 @@ fn point_21_a_flip_list_tests_1_14_12_13() {
 fn point_22_any_counts_and_starts_are_12() {
     let (counts, tables) = accepted("a b\n~a b\n");
     for wild in [3, 65_535, u64::from(u32::MAX), u64::MAX] {
-        for changed in each_count_changed(counts, wild) {
+        for count in 0..4 {
+            let mut changed = counts;
+            *changed.all_mut()[count] = wild;
             let mut lent = tables.clone();
             assert_eq!(walk(&NARROW, &ORDER, changed, &mut lent).reason, 12);
         }
@@ -353,27 +355,6 @@ fn point_22_any_counts_and_starts_are_12() {
             assert_eq!(walk(&NARROW, &ORDER, counts, &mut lent).reason, 12);
         }
     }
-}
-
-fn each_count_changed(counts: Counts, wild: u64) -> [Counts; 4] {
-    [
-        Counts {
-            terms: wild,
-            ..counts
-        },
-        Counts {
-            clauses: wild,
-            ..counts
-        },
-        Counts {
-            literals: wild,
-            ..counts
-        },
-        Counts {
-            uncovered: wild,
-            ..counts
-        },
-    ]
 }
 
 #[test]
@@ -457,8 +438,10 @@ fn point_27_a_refused_sheet_returns_zeros() {
 
 #[test]
 fn point_28_every_printed_line_ends_with_byte_10() {
-    for text in ["a b\n~a b\n", "a\n~a\n", ""] {
-        assert!(printed(GOOD_SHEET, text).ends_with('\n'));
+    for (text, lines) in [("a b\n~a b\n", 5), ("a\n~a\n", 5), ("", 3)] {
+        let printed = printed(GOOD_SHEET, text);
+        assert!(printed.ends_with('\n'));
+        assert_eq!(printed.matches('\n').count(), lines);
     }
 }
 

@@ -4,82 +4,53 @@ use super::lent::{fill_with_rubbish, lengthen, rubbish_entry, shorten};
 use super::names::name_of_length;
 use super::random::Random;
 use super::unsound;
+use crate::kinds;
 use crate::limits::{Limits, TERMS_IN_A_WORD};
 use crate::reader::{pack, LONGEST_NAME};
 use crate::tables::{Counts, Tables};
 
-#[derive(Clone, Copy, Debug, PartialEq, Eq)]
-pub enum DamageKind {
-    None,
-    /// One entry of one table gets another number.
-    EntryInUse,
-    EntryPastUse,
-    /// One entry becomes one more or one less.
-    EntryByOne,
-    /// Two entries of one table change places.
-    EntriesSwapped,
-    ValueTurned,
-    SpareValueBit,
-    Count,
-    NameRepeated,
-    /// A name that is not valid, such as one with a gap in it.
-    NameInvalid,
-    /// Another valid name: the tables still agree.
-    NameOther,
-    /// The list in another order, with its places: the tables still agree.
-    ListReordered,
-    /// The list in another order, without its places.
-    ListReorderedAlone,
-    /// A clause names a term twice, or both ways; all else is laid out for it.
-    TermTwice,
-    TermBothWays,
-    /// A clause of no literal, or no clause; all else is laid out for it.
-    ClauseEmpty,
-    NoClause,
-    /// The clauses of one literal fall.
-    OccurrencesFalling,
-    /// The list has too few or too many, and its count and places are those of its entries.
-    UncoveredLeftOut,
-    CoveredListed,
-    /// The list has one clause in the place of another too.
-    ListedTwice,
-    AllZeros,
-    Rubbish,
-    SmallNumbers,
-    OneShorter,
-    /// Rubbish beyond the full sizes: the tables still agree.
-    Longer,
-}
-
-impl DamageKind {
-    pub const ALL: [DamageKind; 26] = [
-        DamageKind::None,
-        DamageKind::EntryInUse,
-        DamageKind::EntryPastUse,
-        DamageKind::EntryByOne,
-        DamageKind::EntriesSwapped,
-        DamageKind::ValueTurned,
-        DamageKind::SpareValueBit,
-        DamageKind::Count,
-        DamageKind::NameRepeated,
-        DamageKind::NameInvalid,
-        DamageKind::NameOther,
-        DamageKind::ListReordered,
-        DamageKind::ListReorderedAlone,
-        DamageKind::TermTwice,
-        DamageKind::TermBothWays,
-        DamageKind::ClauseEmpty,
-        DamageKind::NoClause,
-        DamageKind::OccurrencesFalling,
-        DamageKind::UncoveredLeftOut,
-        DamageKind::CoveredListed,
-        DamageKind::ListedTwice,
-        DamageKind::AllZeros,
-        DamageKind::Rubbish,
-        DamageKind::SmallNumbers,
-        DamageKind::OneShorter,
-        DamageKind::Longer,
-    ];
+kinds! {
+    pub enum DamageKind {
+        None,
+        /// One entry of one table gets another number.
+        EntryInUse,
+        EntryPastUse,
+        /// One entry becomes one more or one less.
+        EntryByOne,
+        /// Two entries of one table change places.
+        EntriesSwapped,
+        ValueTurned,
+        SpareValueBit,
+        Count,
+        NameRepeated,
+        /// A name that is not valid, such as one with a gap in it.
+        NameInvalid,
+        /// Another valid name: the tables still agree.
+        NameOther,
+        /// The list in another order, with its places: the tables still agree.
+        ListReordered,
+        /// The list in another order, without its places.
+        ListReorderedAlone,
+        /// A clause names a term twice, or both ways; all else is laid out for it.
+        TermTwice,
+        TermBothWays,
+        /// A clause of no literal, or no clause; all else is laid out for it.
+        ClauseEmpty,
+        NoClause,
+        /// The clauses of one literal fall.
+        OccurrencesFalling,
+        /// The list has too few or too many, and its count and places are those of its entries.
+        UncoveredLeftOut,
+        CoveredListed,
+        /// The list has one clause in the place of another too.
+        ListedTwice,
+        AllZeros,
+        Rubbish,
+        SmallNumbers,
+        OneShorter,
+        /// Rubbish beyond the full sizes: the tables still agree.
+        Longer,
+    }
 }
 
 /// Damage of any kind.

@@ -1,57 +1,37 @@
 //! Flip lists; every entry fits in 16 bits where the terms do.
 
 use super::random::Random;
+use crate::kinds;
 use crate::limits::Limits;
 
-#[derive(Clone, Copy, Debug, PartialEq, Eq)]
-pub enum FlipListKind {
-    Empty,
-    One,
-    Few,
-    Hundreds,
-    Thousands,
-    /// One term again and again.
-    OneTermOften,
-    /// Every term once, in any order.
-    EachTermOnce,
-    AtLimit,
-    PastLimit,
-    UnknownTerm,
-    /// Too long, with an unknown term as well: 14 comes first.
-    UnknownTermPastLimit,
-}
-
-impl FlipListKind {
-    pub const ALL: [FlipListKind; 11] = [
-        FlipListKind::Empty,
-        FlipListKind::One,
-        FlipListKind::Few,
-        FlipListKind::Hundreds,
-        FlipListKind::Thousands,
-        FlipListKind::OneTermOften,
-        FlipListKind::EachTermOnce,
-        FlipListKind::AtLimit,
-        FlipListKind::PastLimit,
-        FlipListKind::UnknownTerm,
-        FlipListKind::UnknownTermPastLimit,
-    ];
-
-    /// The kinds that are accepted where the tables agree.
-    pub const ACCEPTED: [FlipListKind; 8] = [
-        FlipListKind::Empty,
-        FlipListKind::One,
-        FlipListKind::Few,
-        FlipListKind::Hundreds,
-        FlipListKind::Thousands,
-        FlipListKind::OneTermOften,
-        FlipListKind::EachTermOnce,
-        FlipListKind::AtLimit,
-    ];
+kinds! {
+    pub enum FlipListKind {
+        /// The kinds that are accepted where the tables agree.
+        ACCEPTED {
+            Empty,
+            One,
+            Few,
+            Hundreds,
+            Thousands,
+            /// One term again and again.
+            OneTermOften,
+            /// Every term once, in any order.
+            EachTermOnce,
+            AtLimit,
+        }
+        REFUSED {
+            PastLimit,
+            UnknownTerm,
+            /// Too long, with an unknown term as well: 14 comes first.
+            UnknownTermPastLimit,
+        }
+    }
 }
 
 /// A list of any kind over this many terms; the longest ones are rare, since they take long.
 pub fn flip_list(limits: &Limits, terms: u64, random: &mut Random) -> Vec<u64> {
-    let mut kind = random.pick(&FlipListKind::ALL);
+    let kinds = [&FlipListKind::ACCEPTED[..], &FlipListKind::REFUSED].concat();
+    let mut kind = random.pick(&kinds);
     if kind == FlipListKind::AtLimit && !random.one_in(8) {
         kind = FlipListKind::Few;
     }

@@ -9,6 +9,7 @@ use super::random::Random;
 use super::sheets::{good_sheet, sheet, sheet_of_order, text_may_follow, SheetKind};
 use super::texts::clause_text_within;
 use super::valid_texts::valid_text;
+use crate::kinds;
 use crate::limits::Limits;
 use crate::order::Order;
 use crate::sheet::read_sheet;
@@ -19,51 +20,32 @@ const LONG_TEXT: usize = 10_000;
 /// More flips together than these are not asked for by damage.
 const MOST_FLIPS: u64 = 100_000;
 
-#[derive(Clone, Copy, Debug, PartialEq, Eq, PartialOrd, Ord)]
-pub enum InputKind {
-    /// A good sheet and a clause text that is accepted.
-    ToWalk,
-    /// A good sheet and a few letters.
-    FewLetters,
-    /// A good sheet and a clause text of any kind.
-    AnyText,
-    /// A sheet of any kind and a clause text that is accepted.
-    AnySheet,
-    /// Both of any kind.
-    AnySheetAnyText,
-    /// A good sheet, then a sheet of any kind as clauses, then a clause text that is accepted.
-    SheetAfterSheet,
-    /// The whole input has exactly as many bytes as it may have.
-    BytesAtLimit,
-    BytesPastLimit,
-    /// Good inputs that are damaged, half of them in the sheet.
-    ChangedBytes,
-    InsertedByte,
-    RemovedByte,
-    DoubledBytes,
-    Cut,
-    AnyBytes,
-    Empty,
-}
-
-impl InputKind {
-    pub const ALL: [InputKind; 15] = [
-        InputKind::ToWalk,
-        InputKind::FewLetters,
-        InputKind::AnyText,
-        InputKind::AnySheet,
-        InputKind::AnySheetAnyText,
-        InputKind::SheetAfterSheet,
-        InputKind::BytesAtLimit,
-        InputKind::BytesPastLimit,
-        InputKind::ChangedBytes,
-        InputKind::InsertedByte,
-        InputKind::RemovedByte,
-        InputKind::DoubledBytes,
-        InputKind::Cut,
-        InputKind::AnyBytes,
-        InputKind::Empty,
-    ];
+kinds! {
+    pub enum InputKind {
+        /// A good sheet and a clause text that is accepted.
+        ToWalk,
+        /// A good sheet and a few letters.
+        FewLetters,
+        /// A good sheet and a clause text of any kind.
+        AnyText,
+        /// A sheet of any kind and a clause text that is accepted.
+        AnySheet,
+        /// Both of any kind.
+        AnySheetAnyText,
+        /// A good sheet, then a sheet of any kind as clauses, then a clause text that is accepted.
+        SheetAfterSheet,
+        /// The whole input has exactly as many bytes as it may have.
+        BytesAtLimit,
+        BytesPastLimit,
+        /// Good inputs that are damaged, half of them in the sheet.
+        ChangedBytes,
+        InsertedByte,
+        RemovedByte,
+        DoubledBytes,
+        Cut,
+        AnyBytes,
+        Empty,
+    }
 }
 
 /// An input of any kind, under the limits of document 01.

@@ -3,30 +3,22 @@
 use super::random::Random;
 use super::valid_texts::{valid_text_of, ValidKind};
 use crate::flips::flip;
+use crate::kinds;
 use crate::limits::Limits;
 use crate::reading::read;
 use crate::tables::{Counts, Tables};
 
-#[derive(Clone, Copy, Debug, PartialEq, Eq)]
-pub enum LentKind {
-    Zeros,
-    Rubbish,
-    /// Longer than the full sizes, with rubbish beyond.
-    Longer,
-    /// One table has one entry too few.
-    OneShorter,
-    /// Some tables have no entry at all.
-    SomeEmpty,
-}
-
-impl LentKind {
-    pub const ALL: [LentKind; 5] = [
-        LentKind::Zeros,
-        LentKind::Rubbish,
-        LentKind::Longer,
-        LentKind::OneShorter,
-        LentKind::SomeEmpty,
-    ];
+kinds! {
+    pub enum LentKind {
+        Zeros,
+        Rubbish,
+        /// Longer than the full sizes, with rubbish beyond.
+        Longer,
+        /// One table has one entry too few.
+        OneShorter,
+        /// Some tables have no entry at all.
+        SomeEmpty,
+    }
 }
 
 /// Tables of any kind, mostly long enough.

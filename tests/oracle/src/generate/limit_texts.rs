@@ -34,88 +34,37 @@ const TAILS: [&[u8]; 24] = [
     b"!\n",
 ];
 
-/// How much a text holds.
-#[derive(Clone, Copy, Debug, PartialEq, Eq)]
-pub struct Size {
-    pub terms: usize,
-    pub clauses: usize,
-    pub literals: usize,
-}
-
 /// A text that holds this many terms.
 pub fn text_of_terms(terms: usize, limits: &Limits, random: &mut Random) -> Vec<u8> {
     let literals = random.between(terms, limits.literals.min(2 * terms));
     let clauses = clauses_for(literals, terms, limits, random);
-    text_of_size(
-        Size {
-            terms,
-            clauses,
-            literals,
-        },
-        random,
-    )
+    text_of_size(terms, clauses, literals, random)
 }
 
 /// A text that holds this many clauses.
 pub fn text_of_clauses(clauses: usize, limits: &Limits, random: &mut Random) -> Vec<u8> {
     let terms = few_terms(limits, random);
     let literals = random.between(clauses.max(terms), limits.literals);
-    text_of_size(
-        Size {
-            terms,
-            clauses,
-            literals,
-        },
-        random,
-    )
+    text_of_size(terms, clauses, literals, random)
 }
 
 /// A text that holds this many literals.
 pub fn text_of_literals(literals: usize, limits: &Limits, random: &mut Random) -> Vec<u8> {
     let terms = few_terms(limits, random);
     let clauses = clauses_for(literals, terms, limits, random);
-    text_of_size(
-        Size {
-            terms,
-            clauses,
-            literals,
-        },
-        random,
-    )
+    text_of_size(terms, clauses, literals, random)
 }
 
 /// A text that holds every limit but that of its bytes.
 pub fn text_full_of_all(limits: &Limits, random: &mut Random) -> Vec<u8> {
-    let Limits {
-        terms,
-        clauses,
-        literals,
-        ..
-    } = *limits;
-    text_of_size(
-        Size {
-            terms,
-            clauses,
-            literals,
-        },
-        random,
-    )
+    text_of_size(limits.terms, limits.clauses, limits.literals, random)
 }
 
 /// A text that holds both the most terms and the most literals: "6 before 7 where both are full".
 pub fn text_full_of_terms_and_literals(limits: &Limits, random: &mut Random) -> Vec<u8> {
-    let Limits {
-        terms, literals, ..
-    } = *limits;
+    let (terms, literals) = (limits.terms, limits.literals);
     let clauses = clauses_for(literals, terms, limits, random);
-    text_of_size(
-        Size {
-            terms,
-            clauses,
-            literals,
-        },
-        random,
-    )
+    text_of_size(terms, clauses, literals, random)
 }
 
 /// An accepted text of exactly this many bytes, where that leaves room for a clause.
@@ -156,21 +105,21 @@ fn widest(terms: usize) -> usize {
     terms.min(ONE_BYTE_NAMES)
 }
 
-/// A text of exactly this size; no line of it is dropped and no literal skipped.
-pub fn text_of_size(size: Size, random: &mut Random) -> Vec<u8> {
+/// A text that holds exactly so much; no line of it is dropped and no literal skipped.
+fn text_of_size(terms: usize, clauses: usize, literals: usize, random: &mut Random) -> Vec<u8> {
     let mut filler = Filler {
-        size,
+        terms,
         introduced: 0,
-        left: size.literals,
+        left: literals,
         random,
     };
-    let widths = filler.widths();
+    let widths = filler.widths(clauses);
     let lines: Vec<Line> = widths.into_iter().map(|width| filler.line(width)).collect();
     write(&lines)
 }
 
 struct Filler<'a> {
-    size: Size,
+    terms: usize,
     introduced: usize,
     /// Literals that are still to be written.
     left: usize,
@@ -179,10 +128,10 @@ struct Filler<'a> {
 
 impl Filler<'_> {
     /// The width of each clause; together they are the literals.
-    fn widths(&mut self) -> Vec<usize> {
-        let most = widest(self.size.terms);
-        let mut widths = vec![1; self.size.clauses];
-        let mut more = self.size.literals.saturating_sub(self.size.clauses);
+    fn widths(&mut self, clauses: usize) -> Vec<usize> {
+        let most = widest(self.terms);
+        let mut widths = vec![1; clauses];
+        let mut more = self.left.saturating_sub(clauses);
         while more > 0 && widths.iter().any(|width| *width < most) {
             let index = self.random.below(widths.len());
             let added = self
@@ -212,7 +161,7 @@ impl Filler<'_> {
 
     /// A new term where one must come now, else a new one or one of those with short names.
     fn next_term(&mut self) -> usize {
-        let new = self.size.terms - self.introduced;
+        let new = self.terms - self.introduced;
         let must = self.introduced == 0 || self.left <= new;
         if new > 0 && (must || self.random.coin()) {
             self.introduced

@@ -33,7 +33,7 @@ pub fn random_lines(
     (0..count).map(|_| line(random)).collect()
 }
 
-pub fn random_word(names: &[Word], random: &mut Random) -> Word {
+fn random_word(names: &[Word], random: &mut Random) -> Word {
     let name = random.pick(names);
     signed(&name, random.coin())
 }

@@ -7,6 +7,7 @@ pub mod draws;
 pub mod faulty_texts;
 pub mod flip_lists;
 pub mod inputs;
+pub mod kinds;
 pub mod lent;
 pub mod limit_texts;
 pub mod lines;

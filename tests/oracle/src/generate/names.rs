@@ -3,6 +3,7 @@
 use std::collections::HashSet;
 
 use super::random::Random;
+use crate::kinds;
 use crate::reader::LONGEST_NAME;
 
 const LOWEST: usize = 33;
@@ -15,25 +16,15 @@ const STRANGE: [&str; 16] = [
     "answer=", "\\n", "{}",
 ];
 
-#[derive(Clone, Copy, Debug, PartialEq, Eq)]
-pub enum NameStyle {
-    Numbered,
-    Letters,
-    AnyBytes,
-    FullLength,
-    AlikeButForOneByte,
-    Strange,
-}
-
-impl NameStyle {
-    pub const ALL: [NameStyle; 6] = [
-        NameStyle::Numbered,
-        NameStyle::Letters,
-        NameStyle::AnyBytes,
-        NameStyle::FullLength,
-        NameStyle::AlikeButForOneByte,
-        NameStyle::Strange,
-    ];
+kinds! {
+    pub enum NameStyle {
+        Numbered,
+        Letters,
+        AnyBytes,
+        FullLength,
+        AlikeButForOneByte,
+        Strange,
+    }
 }
 
 /// The number's own name: all names of one byte come first, then those of two, and so on.

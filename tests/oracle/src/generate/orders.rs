@@ -1,42 +1,29 @@
 //! Orders for a walk, in and out of range; every number fits in 32 bits.
 
 use super::random::Random;
+use crate::kinds;
 use crate::order::{Order, BIASES, FLIPS, SEEDS, THOUSANDTHS, WALKS};
 
-#[derive(Clone, Copy, Debug, PartialEq, Eq)]
-pub enum OrderKind {
-    /// No flip, one or two for each walk.
-    ZeroFlips,
-    OneFlip,
-    TwoFlips,
-    FewFlips,
-    HundredsOfFlips,
-    ThousandsOfFlips,
-    SeedOut,
-    FlipsOut,
-    WalksOut,
-    BiasOut,
-    /// Several numbers out of range at once.
-    ManyOut,
-}
-
-impl OrderKind {
-    pub const IN_RANGE: [OrderKind; 6] = [
-        OrderKind::ZeroFlips,
-        OrderKind::OneFlip,
-        OrderKind::TwoFlips,
-        OrderKind::FewFlips,
-        OrderKind::HundredsOfFlips,
-        OrderKind::ThousandsOfFlips,
-    ];
-
-    pub const OUT_OF_RANGE: [OrderKind; 5] = [
-        OrderKind::SeedOut,
-        OrderKind::FlipsOut,
-        OrderKind::WalksOut,
-        OrderKind::BiasOut,
-        OrderKind::ManyOut,
-    ];
+kinds! {
+    pub enum OrderKind {
+        IN_RANGE {
+            /// No flip, one or two for each walk.
+            ZeroFlips,
+            OneFlip,
+            TwoFlips,
+            FewFlips,
+            HundredsOfFlips,
+            ThousandsOfFlips,
+        }
+        OUT_OF_RANGE {
+            SeedOut,
+            FlipsOut,
+            WalksOut,
+            BiasOut,
+            /// Several numbers out of range at once.
+            ManyOut,
+        }
+    }
 }
 
 /// An order of any kind, mostly in range.

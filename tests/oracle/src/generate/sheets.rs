@@ -3,53 +3,33 @@
 use super::faulty_texts::change_bytes;
 use super::orders::order_in_range;
 use super::random::Random;
+use crate::kinds;
 use crate::order::{Order, BIASES, FLIPS, SEEDS, WALKS};
 use crate::sheet::LINES;
 
-#[derive(Clone, Copy, Debug, PartialEq, Eq)]
-pub enum SheetKind {
-    Good,
-    /// Numbers at the ends of their ranges, such that no walk is long.
-    RangeEnds,
-    LineMissing,
-    EndsEarly,
-    /// Nothing follows the line that lacks its byte 10.
-    NoByte10,
-    LeadingZero,
-    ElevenDigits,
-    OutOfRange,
-    NoDigits,
-    NotADigit,
-    WrongKey,
-    CarriageReturn,
-    Spaces,
-    LinesSwapped,
-    ExtraLine,
-    ChangedBytes,
-    /// Two lines are faulty; the upper one is named.
-    TwoFaults,
-}
-
-impl SheetKind {
-    pub const ALL: [SheetKind; 17] = [
-        SheetKind::Good,
-        SheetKind::RangeEnds,
-        SheetKind::LineMissing,
-        SheetKind::EndsEarly,
-        SheetKind::NoByte10,
-        SheetKind::LeadingZero,
-        SheetKind::ElevenDigits,
-        SheetKind::OutOfRange,
-        SheetKind::NoDigits,
-        SheetKind::NotADigit,
-        SheetKind::WrongKey,
-        SheetKind::CarriageReturn,
-        SheetKind::Spaces,
-        SheetKind::LinesSwapped,
-        SheetKind::ExtraLine,
-        SheetKind::ChangedBytes,
-        SheetKind::TwoFaults,
-    ];
+kinds! {
+    pub enum SheetKind {
+        Good,
+        /// Numbers at the ends of their ranges, such that no walk is long.
+        RangeEnds,
+        LineMissing,
+        EndsEarly,
+        /// Nothing follows the line that lacks its byte 10.
+        NoByte10,
+        LeadingZero,
+        ElevenDigits,
+        OutOfRange,
+        NoDigits,
+        NotADigit,
+        WrongKey,
+        CarriageReturn,
+        Spaces,
+        LinesSwapped,
+        ExtraLine,
+        ChangedBytes,
+        /// Two lines are faulty; the upper one is named.
+        TwoFaults,
+    }
 }
 
 /// Whether clause text may follow the sheet; a sheet that is cut must end the input.
@@ -92,10 +72,9 @@ pub fn sheet_of_order(kind: SheetKind, order: &Order, random: &mut Random) -> Ve
 }
 
 fn lines_of(order: &Order) -> Vec<String> {
-    let numbers = [order.seed, order.flips, order.walks, order.bias];
     LINES
         .iter()
-        .zip(numbers)
+        .zip(order.all())
         .map(|((key, _), number)| format!("{key}{number}"))
         .collect()
 }

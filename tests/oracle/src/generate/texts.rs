@@ -6,74 +6,43 @@ use super::lines::{add_opposites, blank, comment, lone_tilde, random_lines, writ
 use super::names::{distinct_names, NameStyle};
 use super::random::Random;
 use super::valid_texts::{valid_text_of, ValidKind};
+use crate::kinds;
 use crate::limits::Limits;
 
-#[derive(Clone, Copy, Debug, PartialEq, Eq)]
-pub enum TextKind {
-    Valid(ValidKind),
-    Empty,
-    /// Comments, blank lines and dropped lines only: reason 9.
-    NothingKept,
-    ChangedBytes,
-    InsertedByte,
-    RemovedByte,
-    Cut,
-    LongName,
-    WrongByteAfterName,
-    WrongByteAfterTilde,
-    FewLetters,
-    AnyBytes,
-    TermsAtLimit,
-    TermsPastLimit,
-    ClausesAtLimit,
-    ClausesPastLimit,
-    LiteralsAtLimit,
-    LiteralsPastLimit,
-    BytesAtLimit,
-    BytesPastLimit,
-    /// A limit is met, or met but for one, and more lines come.
-    TermsFullThenMore,
-    ClausesFullThenMore,
-    LiteralsFullThenMore,
-    LiteralsNearlyFullThenMore,
-    TermsAndLiteralsFullThenMore,
-    AllFullThenMore,
-}
-
-impl TextKind {
-    /// The kinds beside the valid ones.
-    pub const OTHERS: [TextKind; 25] = [
-        TextKind::Empty,
-        TextKind::NothingKept,
-        TextKind::ChangedBytes,
-        TextKind::InsertedByte,
-        TextKind::RemovedByte,
-        TextKind::Cut,
-        TextKind::LongName,
-        TextKind::WrongByteAfterName,
-        TextKind::WrongByteAfterTilde,
-        TextKind::FewLetters,
-        TextKind::AnyBytes,
-        TextKind::TermsAtLimit,
-        TextKind::TermsPastLimit,
-        TextKind::ClausesAtLimit,
-        TextKind::ClausesPastLimit,
-        TextKind::LiteralsAtLimit,
-        TextKind::LiteralsPastLimit,
-        TextKind::BytesAtLimit,
-        TextKind::BytesPastLimit,
-        TextKind::TermsFullThenMore,
-        TextKind::ClausesFullThenMore,
-        TextKind::LiteralsFullThenMore,
-        TextKind::LiteralsNearlyFullThenMore,
-        TextKind::TermsAndLiteralsFullThenMore,
-        TextKind::AllFullThenMore,
-    ];
-
-    /// All kinds, the valid ones first.
-    pub fn all() -> Vec<TextKind> {
-        let valid = ValidKind::ALL.into_iter().map(TextKind::Valid);
-        valid.chain(TextKind::OTHERS).collect()
+kinds! {
+    pub enum TextKind with Valid(ValidKind) {
+        /// The kinds beside the valid ones that are far from the limits.
+        FAULTY {
+            Empty,
+            /// Comments, blank lines and dropped lines only: reason 9.
+            NothingKept,
+            ChangedBytes,
+            InsertedByte,
+            RemovedByte,
+            Cut,
+            LongName,
+            WrongByteAfterName,
+            WrongByteAfterTilde,
+            FewLetters,
+            AnyBytes,
+        }
+        AT_LIMITS {
+            TermsAtLimit,
+            TermsPastLimit,
+            ClausesAtLimit,
+            ClausesPastLimit,
+            LiteralsAtLimit,
+            LiteralsPastLimit,
+            BytesAtLimit,
+            BytesPastLimit,
+            /// A limit is met, or met but for one, and more lines come.
+            TermsFullThenMore,
+            ClausesFullThenMore,
+            LiteralsFullThenMore,
+            LiteralsNearlyFullThenMore,
+            TermsAndLiteralsFullThenMore,
+            AllFullThenMore,
+        }
     }
 }
 
@@ -87,7 +56,7 @@ pub fn clause_text_within(limits: &Limits, random: &mut Random) -> Vec<u8> {
     let kind = if random.coin() {
         TextKind::Valid(random.pick(&ValidKind::ALL))
     } else {
-        random.pick(&TextKind::OTHERS)
+        random.pick(&[&TextKind::FAULTY[..], &TextKind::AT_LIMITS].concat())
     };
     clause_text_of(kind, limits, random)
 }

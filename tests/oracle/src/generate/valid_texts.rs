@@ -6,59 +6,38 @@ use super::lines::{
 };
 use super::names::{distinct_names, NameStyle};
 use super::random::Random;
+use crate::kinds;
 
-#[derive(Clone, Copy, Debug, PartialEq, Eq)]
-pub enum ValidKind {
-    /// Clauses of one width over terms drawn at random.
-    UniformClauses,
-    /// Clauses that hidden values cover.
-    PlantedClauses,
-    /// Hundreds of terms, hundreds of clauses.
-    ManyClauses,
-    UnitClauses,
-    /// Orphans, each to be placed under one of its parents.
-    Placement,
-    /// Every sign pattern of a few terms, so that no values cover.
-    Contradiction,
-    /// One clause of hundreds of literals.
-    WideClause,
-    RepeatedLiterals,
-    OppositeLiterals,
-    /// Lines dropped by "true", after any number of their literals.
-    TrueInLines,
-    /// Terms that only a dropped line names.
-    TermsOnlyDropped,
-    Comments,
-    LoneTildes,
-    BlankLines,
-    SpaceRuns,
-    AnyNames,
-    StrangeNames,
-    /// All of the above together.
-    Mixed,
-}
-
-impl ValidKind {
-    pub const ALL: [ValidKind; 18] = [
-        ValidKind::UniformClauses,
-        ValidKind::PlantedClauses,
-        ValidKind::ManyClauses,
-        ValidKind::UnitClauses,
-        ValidKind::Placement,
-        ValidKind::Contradiction,
-        ValidKind::WideClause,
-        ValidKind::RepeatedLiterals,
-        ValidKind::OppositeLiterals,
-        ValidKind::TrueInLines,
-        ValidKind::TermsOnlyDropped,
-        ValidKind::Comments,
-        ValidKind::LoneTildes,
-        ValidKind::BlankLines,
-        ValidKind::SpaceRuns,
-        ValidKind::AnyNames,
-        ValidKind::StrangeNames,
-        ValidKind::Mixed,
-    ];
+kinds! {
+    pub enum ValidKind {
+        /// Clauses of one width over terms drawn at random.
+        UniformClauses,
+        /// Clauses that hidden values cover.
+        PlantedClauses,
+        /// Hundreds of terms, hundreds of clauses.
+        ManyClauses,
+        UnitClauses,
+        /// Orphans, each to be placed under one of its parents.
+        Placement,
+        /// Every sign pattern of a few terms, so that no values cover.
+        Contradiction,
+        /// One clause of hundreds of literals.
+        WideClause,
+        RepeatedLiterals,
+        OppositeLiterals,
+        /// Lines dropped by "true", after any number of their literals.
+        TrueInLines,
+        /// Terms that only a dropped line names.
+        TermsOnlyDropped,
+        Comments,
+        LoneTildes,
+        BlankLines,
+        SpaceRuns,
+        AnyNames,
+        StrangeNames,
+        /// All of the above together.
+        Mixed,
+    }
 }
 
 /// A text of this kind; a line that is always kept stands in each.

@@ -16,13 +16,7 @@ pub const SMALL: Limits = Limits {
     list: 60,
 };
 
-/// "Numbers are those above unless said."
-pub const ORDER: Order = Order {
-    seed: 1,
-    flips: 10,
-    walks: 1,
-    bias: 400,
-};
+pub const ORDER: Order = Order::EXAMPLE;
 
 /// The good sheet of the program's example.
 pub const GOOD_SHEET: &str = "seed=1\nflips=10\nwalks=1\nbias=400\n";
@@ -35,7 +29,7 @@ pub fn read_narrow(text: impl AsRef<[u8]>) -> (ReadAnswer, Tables) {
 }
 
 /// Full-size tables with this number everywhere.
-pub fn full_of(limits: &Limits, number: u64) -> Tables {
+fn full_of(limits: &Limits, number: u64) -> Tables {
     let mut tables = Tables::zeros(limits);
     for table in tables.all_mut() {
         table.fill(number);
@@ -61,12 +55,22 @@ pub fn assert_refused(text: impl AsRef<[u8]>, reason: u64, line: u64) {
     assert_eq!(tables, Tables::zeros(&NARROW));
 }
 
+/// Terms, clauses, literals.
+pub fn held(counts: Counts) -> [u64; 3] {
+    [counts.terms, counts.clauses, counts.literals]
+}
+
 /// A reading and a walk, both accepted.
 pub fn walked(text: &str, order: &Order) -> (WalkAnswer, Tables) {
     let (counts, mut tables) = accepted(text);
     let answer = walk(&NARROW, order, counts, &mut tables);
     assert_eq!(answer.reason, 0);
     (answer, tables)
+}
+
+/// How a walk ended: its result, walks and flips.
+pub fn ended(answer: WalkAnswer) -> [u64; 3] {
+    [answer.result, answer.walks, answer.flips]
 }
 
 /// What the run program prints for a sheet and a text.
