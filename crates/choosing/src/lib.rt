@@ -50,8 +50,8 @@ fn break_of(breaks: &[u16], l: u16) -> u16
     breaks[(l / 2) as usize]
 }
 
-// The smaller of the two.
-fn least(a: u16, b: u16) -> u16
+// The smaller of two break counts.
+fn smaller(a: u16, b: u16) -> u16
     ensures { λ r. ⌜ r ≡ min a b ⌝ }
 {
     if a < b {
@@ -72,7 +72,7 @@ fn least_break(breaks: &[u16], clause: &[u16]) -> u16
         if low == 0 {
             return low;
         }
-        low = least(low, break_of(breaks, clause[i]));
+        low = smaller(low, break_of(breaks, clause[i]));
         i += 1;
     }
     low

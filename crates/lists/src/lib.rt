@@ -112,7 +112,7 @@ fn flip_list(
         ≡ applied clauses (fixed (now (starts .entry)) (now (literals .entry)) (now («occurrence_starts» .entry)) (now (occurrences .entry))) (now (list .entry))
         (moving (now (values .entry)) (tallies (now (trues .entry)) (now (breaks .entry)) (now (uncovered .entry)) (now (places .entry)) number)) ⌝ }
 {
-    tables::open_all(clauses, values, starts, literals, trues, places);
+    recounts::open_all(clauses, values, starts, literals, trues, places);
     let m = flips::flip_all(
         list,
         values,
@@ -124,7 +124,7 @@ fn flip_list(
         places,
         number,
     );
-    tables::close_all(clauses, trues, places);
+    recounts::close_all(clauses, trues, places);
     m
 }
 

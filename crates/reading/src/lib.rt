@@ -133,7 +133,7 @@ fn finish(
         literals: p.from as u32,
         uncovered: 0,
     };
-    tables::turn_round(
+    rounds::turn_round(
         n,
         starts,
         literals,
@@ -141,7 +141,7 @@ fn finish(
         occurrences,
         uncovered,
     );
-    let number = tables::count_afresh(
+    let number = recounts::count_afresh(
         terms,
         clauses,
         values,
@@ -152,7 +152,7 @@ fn finish(
         uncovered,
         places,
     );
-    tables::close_all(clauses, trues, places);
+    recounts::close_all(clauses, trues, places);
     Counts {
         terms: n.terms,
         clauses: n.clauses,

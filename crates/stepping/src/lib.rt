@@ -133,7 +133,7 @@ fn start(
     let terms = n.terms as usize;
     let g = from.generator;
     let drawn = words::fill(values, terms, g);
-    let number = tables::count_afresh(
+    let number = recounts::count_afresh(
         terms,
         n.clauses as usize,
         values,

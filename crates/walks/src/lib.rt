@@ -135,7 +135,7 @@ pub fn walk_tested(
             flips: 0,
         },
     );
-    tables::close_all(n.clauses as usize, trues, places);
+    recounts::close_all(n.clauses as usize, trues, places);
     let at = e.at;
     let tour = Tour {
         walks: e.walks,

@@ -49,7 +49,7 @@ pub fn put(words: &mut [u32], n: usize, k: usize, w: u32)
 }
 
 // The smaller of the two.
-fn least(a: usize, b: usize) -> usize
+pub fn least(a: usize, b: usize) -> usize
     ensures { λ r. ⌜ r ≡ min a b ⌝ }
 {
     if a < b {
