@@ -1,16 +1,11 @@
-use mathlib.Core.Path.{_≡_, refl}
-use Prim.Native.Nat.{_-_, _≤_}
-use native.Mathlib.Omega.{arith}
-use lib.ListN.{length, length-set}
-use Rattle.machine.specs.Passes.{rewritten}
-use Rattle.machine.proofs.Rewritten.{rewritten-none, rewritten-more}
-use Rattle.machine.proofs.Cleared.{clear-end}
+use Prim.Native.Nat.{_-_}
 use borrow.Author.Needs.{needs}
+use Rattle.tables.proofs.Clearing.{Clearing, clear-begun, clear-more, clear-done}
 use Rattle.tables.proofs.clear_words.Statement.{statement}
 use Rattle.tables.proofs.clear_words.Tie as tie
 
 abbrev Inv-loop : tie.InvT-loop
-Inv-loop words₀ n last i₀ words i = (i ≤ last) × (words ≡ rewritten (λ j p. 0) i words₀) × (length words ≡ length words₀)
+Inv-loop words₀ n last i₀ words i = Clearing words₀ last i words
 
 abbrev μ-loop : tie.MeasureT-loop
 μ-loop words₀ n last i₀ words i = last - i
@@ -18,6 +13,5 @@ abbrev μ-loop : tie.MeasureT-loop
 pub clear-words-spec : {M : Type 1} → statement M
 clear-words-spec =
     tie.close
-    (tie.spec Inv-loop μ-loop (λ c κs. search needs) (λ c. (omega arith, rewritten-none _ _, refl)) (λ c. search needs) (λ c. search needs)
-    (λ c. search needs) (λ c. search needs) (λ c. (omega arith, search rewritten-more, simp length-set (c .before .loop .inv .2)))
-    (λ c. search needs) (λ c. search clear-end))
+    (tie.spec Inv-loop μ-loop (λ c κs. search needs) (λ c. search clear-begun) (λ c. search needs) (λ c. search needs) (λ c. search needs)
+    (λ c. search needs) (λ c. search clear-more) (λ c. search needs) (λ c. search clear-done))
