@@ -13,10 +13,10 @@ use Rattle.words.specs.Words.{stateAfter, wordCount}
 use Rattle.written.specs.declared.Order.{Order}
 use Rattle.written.specs.Clauses.{File, State}
 use Rattle.written.specs.Drawing.{Pick, choice, heads, chosenFrom, startState}
-use Rattle.written.specs.Walk.{Moment, start, step, onwards, leastBreak, atLeast, oneOf, afterHeads, literalIn, flipPicked, inClause, walkOver}
+use Rattle.written.specs.Walk.{Moment, start, step, leastBreak, atLeast, oneOf, afterHeads, literalIn, flipPicked, inClause, walkOver}
 use Rattle.laws.proofs.Basics.{by-test}
 use Rattle.laws.proofs.Walks.{begun}
-use Rattle.laws.proofs.Endings.{onwards-keeps, walks-keep}
+use Rattle.laws.proofs.Endings.{walks-keep}
 
 -- what every draw keeps, a choice, heads, the picked literal, a step, a start and the walks keep
 module _ (P : ℕ → Type 0) (next : (y : ℕ) → P y → P (nextOf y)) where
@@ -67,26 +67,8 @@ module _ (P : ℕ → Type 0) (next : (y : ℕ) → P y → P (nextOf y)) where
 
 -- ---- the state is not 0: each move of a walk from such a state leaves one
 
-pub choice-pos : (m y : ℕ) → 0 < y → 0 < choiceOf m y .next .state
-choice-pos = choice-keeps (λ y. 0 < y) next-pos
-
-pub heads-pos : (bias y : ℕ) → 0 < y → 0 < headsOf bias y .next .state
-heads-pos = heads-keeps (λ y. 0 < y) next-pos
-
 pub literal-pos : (o : Order) (s : State) (ls : List ℕ) (y : ℕ) → 0 < y → 0 < literalIn o s ls y .state
 literal-pos = literal-keeps (λ y. 0 < y) next-pos
-
-pub step-pos : (o : Order) (m : Moment) → 0 < m .generator → 0 < step o m .generator
-step-pos = step-keeps (λ y. 0 < y) next-pos
-
-pub after-pos : (y k : ℕ) → 0 < y → 0 < stateAfter y k
-after-pos = after-keeps (λ y. 0 < y) next-pos
-
-pub start-pos : (m : Moment) → 0 < m .generator → 0 < start m .generator
-start-pos = start-keeps (λ y. 0 < y) next-pos
-
-pub onwards-pos : (o : Order) (k : ℕ) (m : Moment) → 0 < m .generator → 0 < onwards o k m .generator
-onwards-pos o = onwards-keeps (λ m. 0 < m .generator) o (λ m q h. step-pos o m h)
 
 -- from a seed that is not 0 the walks end at a state that is not 0
 pub end-pos : (o : Order) (f : File) → 0 < o .seed → 0 < walkOver o f .last .generator

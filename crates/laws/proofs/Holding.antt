@@ -147,9 +147,6 @@ holding-again lim s r t v w = holding-by lim s (holding lim r t) t v (holding-be
 pub holding-cleared : (lim : Limits) (s : State) (t : Tables) → Valid lim s → holding lim s (cleared lim t) ≡ holding lim s t
 holding-cleared lim s t v = holding-by lim s (cleared lim t) t v (cleared-beyond lim t)
 
-pub cleared-holding : (lim : Limits) (s : State) (t : Tables) → Valid lim s → cleared lim (holding lim s t) ≡ cleared lim t
-cleared-holding lim s t v = cleared-by lim (holding lim s t) t (holding-beyond lim s t v)
-
 pub cleared-again : (lim : Limits) (t : Tables) → cleared lim (cleared lim t) ≡ cleared lim t
 cleared-again lim t = cleared-by lim (cleared lim t) t (cleared-beyond lim t)
 

@@ -1,23 +1,22 @@
 -- A start: the values that the draws give are those of the words filled. Assumes nothing.
 use Prim.Native.Nat.{ℕ, zero, suc, _+_, _-_, _*_, _/_, _%_, _^_, _≤_, _<_, min}
 use mathlib.Core.Path.{_≡_, refl, ap, sym, _∙_}
-use mathlib.Core.List.{List, _++_}
+use mathlib.Core.List.{List}
 use native.Mathlib.Omega.{arith}
 use native.Mathlib.Nat.{mod-lt, lt-of-lt-of-le}
-use lib.ListN.{length, getD, drop, length-replicate, List·getD-eq-default, List·getD-append}
+use lib.ListN.{length, getD, drop, List·getD-eq-default, List·getD-append}
 use lib.Seq.{ext-getD, getD-set-same, getD-set-other}
 use lib.Pow.{pow-mono, pow-pos}
 use Rattle.draw.specs.Xorshift.{nextOf}
 use Rattle.words.specs.Words.{bitOf, bitAt, keepLow, putAt, filled, stateAfter, wordCount}
 use Rattle.words.proofs.Ext.{bit-at, bits-ext}
 use Rattle.words.proofs.Laws.{filled-length, filled-term, filled-past}
-use Rattle.written.specs.Lists.{zeros, padded}
 use Rattle.written.specs.Tables.{wordsOf, over}
 use Rattle.written.specs.Drawing.{draws, startValues}
 use Rattle.laws.specs.Valid.{Bits}
 use Rattle.laws.proofs.Basics.{by-eq, by-lt}
 use Rattle.laws.proofs.Lists.{listFrom-length, getD-listOf, over-length}
-use Rattle.laws.proofs.Padding.{over-past, drop-zeros}
+use Rattle.laws.proofs.Padding.{over-past}
 use Rattle.laws.proofs.Values.{words-length, words-lt, words-bit, values-bits}
 
 -- ---- draws one after another
@@ -91,9 +90,3 @@ filled-start ws n y l =
     (λ k p. by-lt k (length new)
     (λ q. filled-word ws n y k l (omega arith) ∙ sym (List·getD-append new (drop (length new) ws) 0 k q))
     (λ q. filled-rest ws n y (wordCount n) k (omega arith) ∙ sym (over-past new ws k q)))
-
--- so in words that were 0
-pub padded-start : (full n y : ℕ) → wordCount n ≤ full → padded full (wordsOf (startValues n y)) ≡ filled (zeros full) n y (wordCount n)
-padded-start full n y l =
-    sym (filled-start (zeros full) n y (omega (arith, length-replicate {A = ℕ} full 0))
-    ∙ ap (λ (rest : List ℕ). wordsOf (startValues n y) ++ rest) (drop-zeros (length (wordsOf (startValues n y))) full))

@@ -1,5 +1,5 @@
 -- Tables that begin with a list, with parts one after another or with value words: what is read from them. Assumes nothing.
-use mathlib.Core.Path.{_≡_, refl, ap}
+use mathlib.Core.Path.{_≡_, ap}
 use mathlib.Core.List.{List, [], _++_, flatten, append-assoc}
 use Prim.Native.Nat.{ℕ, _+_, _-_, _≤_, _<_}
 use native.Mathlib.Omega.{arith}
@@ -26,9 +26,6 @@ module _ {xs ys : List ℕ} (b : Begins xs ys) where
 
 -- a list filled up, and written over another
 module _ (n : ℕ) (xs : List ℕ) where
-  pub padded-begins : Begins xs (padded n xs)
-  padded-begins = record { rest = zeros (n - length xs); is = refl }
-
   pub over-begins : (old : List ℕ) → Begins xs (over (padded n xs) old)
   over-begins old = record { rest = zeros (n - length xs) ++ drop (length (padded n xs)) old; is = append-assoc xs (zeros (n - length xs)) _ }
 

@@ -1,4 +1,4 @@
--- A flip, the passes and a recount, each put together from what its calls gave. Assumes nothing.
+-- A flip, the passes and a flip list, each put together from what its calls gave. Assumes nothing.
 use mathlib.Core.Path.{_≡_, refl, ap, _∙_}
 use mathlib.Core.List.{List, [], _∷_}
 use Prim.Native.Nat.{ℕ}
@@ -8,8 +8,8 @@ use Rattle.words.specs.Words.{bitOf, bitAt, turnAt}
 use Rattle.written.specs.Lists.{steps}
 use Rattle.written.specs.Agreement.{partOf}
 use Rattle.machine.specs.Tallies.{Tallies, tallies, CanSteps, CanGain, CanLose, gainOne, loseOne}
-use Rattle.machine.specs.Moving.{Fixed, occurring, Moving, moving, view, CanPart, upOf, downOf, gained, lost, flipTerm, CanFlip}
-use Rattle.machine.specs.Passes.{rewritten, zeroed, walkPlace, restPlace, withPlaces, opened, closed, CanClose, applied, CanApply, blank, counted, recounted}
+use Rattle.machine.specs.Moving.{Fixed, occurring, Moving, view, CanPart, upOf, downOf, gained, lost, flipTerm, CanFlip}
+use Rattle.machine.specs.Passes.{rewritten, zeroed, walkPlace, restPlace, withPlaces, opened, closed, CanClose, applied, CanApply, blank}
 use Rattle.machine.proofs.Xor.{xor-one}
 
 -- the literal that becomes false is the other one of the term
@@ -80,11 +80,6 @@ pub is-blank : (C T : ℕ) (t : Tallies) {bs us : List ℕ} → bs ≡ zeroed T 
     → tallies (t .trues) bs us (t .uncovered .places) 0 ≡ blank C T t
 unfolding blank
 is-blank C T t eb eu = rw (eb, eu)
-
-pub is-recounted : (C T : ℕ) (x : Fixed) (w : Moving) {b t : Tallies} → b ≡ blank C T (w .tallies) → t ≡ counted C (view (w .words) (x .starts) (x .literals)) b
-    → moving (w .words) t ≡ recounted C T x w
-unfolding recounted
-is-recounted C T x w eb et = rw (et, eb)
 
 -- a flip list put together from its calls
 module _ (top n : ℕ) (x : Fixed) (ts : List ℕ) (w : Moving) (h : CanApply top n x ts w) {ps : List ℕ}

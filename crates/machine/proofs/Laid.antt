@@ -18,11 +18,11 @@ use Rattle.laws.proofs.Lists.{listFrom-length, getD-listOf}
 use Rattle.laws.proofs.Sums.{total-has}
 use Rattle.laws.proofs.Membership.{placeOf-lt, placeOf-getD, has-getD}
 use Rattle.laws.proofs.Times.{placeOf-once}
-use Rattle.laws.proofs.Padding.{padded-room, padded-zero, over-room, over-zero}
+use Rattle.laws.proofs.Padding.{over-room, over-zero}
 use Rattle.laws.proofs.Counted.{listed-length, listed-few, listed-has, listed-at, listed-once}
 use Rattle.machine.specs.Holds.{HoldsClauses, Placed, Resting}
 use Rattle.machine.specs.Lent.{fixedIn, movingIn, Laid}
-use Rattle.machine.proofs.Begins.{begins-length, begins-at, padded-begins, over-begins, part-can, part-is, words-hold}
+use Rattle.machine.proofs.Begins.{begins-length, begins-at, over-begins, part-can, part-is, words-hold}
 
 module _ (lim : Limits) (top : ℕ) (few-clauses : lim .clauses + 1 < top) (few-terms : 2 * lim .terms < top) (few-literals : lim .literals < top)
     (s : State) (t : Tables) (v : Valid lim s) (b : Laid s t) where
@@ -127,26 +127,9 @@ module _ (lim : Limits) (top : ℕ) (few-clauses : lim .clauses + 1 < top) (few-
         list = rw (b .uncovered .is) (take-append-seam us (b .uncovered .rest));
       }
 
--- ---- the tables that are written for a state
+-- ---- lent tables into which a state is written
 
 module _ (lim : Limits) (s : State) (few : length (s .file .clauses) ≤ lim .clauses) where
-  pub tables-laid : Laid s (tablesOf lim s)
-  unfolding tablesOf each fullSizes sizes
-  tables-laid =
-      record {
-        values = padded-begins _ _;
-        starts = padded-begins _ _;
-        literals = padded-begins _ _;
-        occurrenceStarts = padded-begins _ _;
-        occurrences = padded-begins _ _;
-        trues = padded-begins _ _;
-        breaks = padded-begins _ _;
-        uncovered = padded-begins _ _;
-        places = padded-begins _ _;
-        room = unfold inUse in (let r = padded-room (lim .clauses) (s .uncovered) in omega arith);
-        zero = unfold inUse in (λ j l h. padded-zero (lim .clauses) (s .uncovered) j l);
-      }
-
   pub holding-laid : (t : Tables) → Laid s (holding lim s t)
   unfolding holding tablesOf each fullSizes sizes
   holding-laid t =

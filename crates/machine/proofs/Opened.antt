@@ -1,27 +1,22 @@
 -- Written tables opened are walking tables of the same state, and closed again they are written tables. Assumes nothing.
-use mathlib.Core.Path.{_≡_, refl, ap, _∙_, sym, subst}
-use mathlib.Core.Bool.{true}
+use mathlib.Core.Path.{_≡_, refl, _∙_, sym}
 use mathlib.Core.List.{List, []}
 use Prim.Native.Nat.{ℕ, _*_, _/_, _<_}
 use native.Mathlib.Omega.{arith}
 use lib.ListN.{length, getD}
 use lib.Dec.{ltb}
 use borrow.Author.Tests.{eq-eqb, ne-eqb, ltb-true}
-use Rattle.written.specs.Lists.{total, steps}
-use Rattle.written.specs.Clauses.{File, State, termOf, valueOf, trueCount}
-use Rattle.written.specs.Flips.{flipped}
+use Rattle.written.specs.Lists.{total}
+use Rattle.written.specs.Clauses.{State, termOf, valueOf, trueCount}
 use Rattle.laws.proofs.Sums.{total-by}
 use Rattle.laws.proofs.All.{all-getD}
-use Rattle.laws.proofs.Flips.{flipped-file}
 use Rattle.machine.specs.Literals.{valueIn, xorTrue, Readable}
-use Rattle.machine.specs.Moving.{Fixed, Moving, view, CanRead, countAt, xorAt, flipTerm}
+use Rattle.machine.specs.Moving.{Fixed, Moving, view, CanRead, countAt, xorAt}
 use Rattle.machine.specs.Passes.{withPlaces, rewritten, walkPlace, restPlace, CanClose, CanOpen, opened, closed}
 use Rattle.machine.specs.Holds.{HoldsClauses, HoldsValues, HoldsAt, Resting, Walking, Kept}
 use Rattle.machine.proofs.Clause.{xor-by}
 use Rattle.machine.proofs.Placed.{placed-same}
 use Rattle.machine.proofs.Flipped.{lits}
-use Rattle.machine.proofs.Standings.{kept-trans}
-use Rattle.machine.proofs.FlipLists.{termsOf, flips-walking, flips-kept}
 use Rattle.machine.proofs.Rewritten.{length-rewritten, rewritten-past, rewritten-at}
 
 -- ---- a clause read from the tables is the clause that is written
@@ -112,22 +107,3 @@ pub closed-kept : (n T : ℕ) (w : Moving) → Kept n T (w .tallies) (closed n w
 unfolding closed
 closed-kept n T w =
     record { trues-kept = λ j l. refl; breaks-kept = λ j l. refl; list-kept = λ j l. refl; places-kept = λ j l. rewritten-past _ n (w .tallies .uncovered .places) j l }
-
--- ---- a flip list on written tables: opened, flipped and closed
-
-module _ (top : ℕ) (ts : List ℕ) (s : State) (x : Fixed) (w : Moving) (g : Resting top s x w) (b : termsOf (length (s .values)) ts ≡ true) where
-  abbrev size : ℕ
-  size = length (s .file .clauses)
-
-  walked : Walking top (flipped ts s) x (steps (flipTerm x) ts (opened size x w))
-  walked = flips-walking top ts s x (opened size x w) (opened-walking top s x w (λ c. 0) g) b
-
-  pub flips-resting : Resting top (flipped ts s) x (closed size (steps (flipTerm x) ts (opened size x w)))
-  flips-resting =
-      subst (λ (k : ℕ). Resting top (flipped ts s) x (closed k (steps (flipTerm x) ts (opened size x w)))) (ap (λ (f : File). length (f .clauses)) (flipped-file ts s))
-      (closed-resting top (flipped ts s) x (steps (flipTerm x) ts (opened size x w)) _ walked)
-
-  pub flips-rest-kept : Kept size (length (s .values)) (w .tallies) (closed size (steps (flipTerm x) ts (opened size x w)) .tallies)
-  flips-rest-kept =
-      kept-trans (opened-kept size (length (s .values)) x w)
-      (kept-trans (flips-kept top ts s x (opened size x w) (opened-walking top s x w (λ c. 0) g) b) (closed-kept size (length (s .values)) (steps (flipTerm x) ts (opened size x w))))

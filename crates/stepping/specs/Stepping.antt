@@ -8,7 +8,7 @@ use Rattle.words.specs.Words.{filled, stateAfter, wordCount}
 use Rattle.written.specs.declared.Order.{Order}
 use Rattle.written.specs.Drawing.{Pick, chosenFrom}
 use Rattle.written.specs.Agreement.{partOf}
-use Rattle.machine.specs.Tallies.{Tallies, tallies}
+use Rattle.machine.specs.Tallies.{Tallies}
 use Rattle.machine.specs.Moving.{Fixed, Moving, moving, view, flipTerm, CanPart, CanFlip}
 use Rattle.machine.specs.Passes.{recounted, CanRecount}
 use Rattle.choosing.specs.Choosing.{breakIn, literalBy, CanDraw, CanPick}

@@ -29,19 +29,10 @@ loop-holds c =
     let a = c .before .args in
     (omega arith, refl, packing-none 8 (drop (a .s) (a .text .now)) (a .s) (lit< tt))
 
-shared-slice-read-b : tie.Need-shared-slice-read-b Inv-loop μ-loop
-shared-slice-read-b c = omega arith
-
-is-requires : tie.Need-is-requires Inv-loop μ-loop
-is-requires c κs = search needs
-
 returns : tie.Need-returns Inv-loop μ-loop
 returns c =
     let inv = c .before .before .before .before .loop .inv in
     (sym (past-stop (isOf Name) _ _ (c .before .before .before .loop-test .taken) (sym (c .before .is .ensures) ∙ not-true _ (c .if1 .taken))) ∙ inv .1, inv .2 .whole)
-
-widened-requires : tie.Need-widened-requires Inv-loop μ-loop
-widened-requires c κs = search needs
 
 module _ (c : lts.After-widened (is-reads.Asked, is-reads.Learnt, widened-reads.Asked, widened-reads.Learnt) reads.Pre reads.Post Inv-loop μ-loop) where
   -- a byte of a name is below 126
@@ -62,12 +53,6 @@ mul-name c = let room = fits c in omega arith
 add-name : tie.Need-add-name Inv-loop μ-loop
 add-name c = let room = fits c in omega arith
 
-add-i : tie.Need-add-i Inv-loop μ-loop
-add-i c = omega arith
-
-loop-less : tie.Need-loop-less Inv-loop μ-loop
-loop-less c = omega arith
-
 loop-again : tie.Need-loop-again Inv-loop μ-loop
 loop-again c =
     let a = c .before .before .before .before .before .before .before .args in
@@ -85,17 +70,5 @@ returns-2 c =
 pub name-run-spec : {M : Type 1} → statement M
 name-run-spec =
     tie.close
-    (tie.spec
-    Inv-loop
-    μ-loop
-    loop-holds
-    shared-slice-read-b
-    is-requires
-    returns
-    widened-requires
-    mul-name
-    add-name
-    add-i
-    loop-less
-    loop-again
-    returns-2)
+    (tie.spec Inv-loop μ-loop loop-holds (λ c. omega arith) (λ c κs. search needs) returns (λ c κs. search needs) mul-name add-name (λ c. omega arith)
+    (λ c. omega arith) loop-again returns-2)
