@@ -1,16 +1,15 @@
 -- The literals at the least, collected one after another; how many they are. Assumes nothing.
 use Prim.Native.Nat.{ℕ, suc, _+_, _≤_, _<_}
 use mathlib.Core.Path.{_≡_, refl, sym, _∙_}
-use mathlib.Core.Bool.{Bool}
-use mathlib.Core.List.{List, [], _∷_, _++_, append-nil}
+use mathlib.Core.List.{List, _++_, append-nil}
 use native.Mathlib.Nat.{add-zero}
 use native.Mathlib.Numerals.{add-one}
 use native.Mathlib.Omega.{arith}
 use lib.ListN.{length, getD, take, drop, set, drop-of-length-le}
 use lib.Seq.{drop-cons, append-snoc, take-set-le, take-suc-set}
 use lib.Dec.{eqb}
-use Rattle.written.specs.Lists.{those}
 use Rattle.laws.proofs.Basics.{by-cases}
+use Rattle.laws.proofs.Lists.{those-short}
 use Rattle.machine.specs.Tallies.{hitOf}
 use Rattle.machine.proofs.Ones.{hit-low}
 use Rattle.choosing.specs.Choosing.{leastBy, tiesBy, CanDraw}
@@ -47,11 +46,6 @@ module _ (h : ℕ → ℕ) (m : ℕ) (ls : List ℕ) where
   collect-done ties k i s l = sym (append-nil (take k ties)) ∙ (rw (drop-of-length-le ls l) at (s .rest))
 
 -- ---- how many
-
--- not more than there are
-those-short : {A : Type 0} (p : A → Bool) (xs : List A) → length (those p xs) ≤ length xs
-those-short p [] = omega arith
-those-short p (x ∷ xs) = let e = those-short p xs in by-cases (p x) (λ q. rw q (omega arith)) (λ q. rw q (omega arith))
 
 -- the literals at the least are some, and no more than the clause's
 pub ties-draw : (top : ℕ) (h : ℕ → ℕ) (ls : List ℕ) {m : ℕ} {xs : List ℕ} → CanDraw top ls → m ≡ leastBy h ls → xs ≡ tiesBy h m ls → CanDraw top xs

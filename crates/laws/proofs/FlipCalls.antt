@@ -141,7 +141,7 @@ module _ (lim : Limits) (ts : List ℕ) (n : Counts) (t : Tables) where
   refused-answer : (r : Reason) → Fails lim ts n t r → flipsOf lim ts n t .answer ≡ F.Refused (record { reason = r; counts = n })
   refused-answer r f = ap (λ (l : Leaves Flipped). l .answer) (failed r f)
 
-  passed : Acceptable lim ts n t → flipsOf lim ts n t ≡ flipsLeave lim t (flipped ts (stateIn n t))
+  pub passed : Acceptable lim ts n t → flipsOf lim ts n t ≡ flipsLeave lim t (flipped ts (stateIn n t))
   unfolding flipsOf
   passed h = rw (h .full, le-ltb (lim .list) (length ts) (h .short), h .agrees, h .known) refl
 

@@ -6,7 +6,7 @@ use mathlib.Core.List.{List, [], _∷_, _++_, map}
 use native.Mathlib.Omega.{arith}
 use lib.Seq.{ext-getD, getD-set-other}
 use lib.ListN.{length, getD, set, drop, length-append, length-replicate, length-drop}
-use Rattle.written.specs.Lists.{whereFrom, listFrom, listOf, zeros, padded, steps}
+use Rattle.written.specs.Lists.{those, whereFrom, listFrom, listOf, zeros, padded, steps}
 use Rattle.written.specs.Tables.{over}
 use Rattle.laws.proofs.Basics.{by-cases}
 
@@ -43,6 +43,11 @@ over-length new old h = omega (arith, length-append new (drop (length new) old),
 pub kept-set : (n : ℕ) (xs : List ℕ) (k y : ℕ) (zs : List ℕ) → k < n → ((j : ℕ) → n ≤ j → getD xs j 0 ≡ getD zs j 0) → (j : ℕ) → n ≤ j
     → getD (set xs k y) j 0 ≡ getD zs j 0
 kept-set n xs k y zs l h j m = getD-set-other xs k j y 0 (λ q. omega arith) ∙ h j m
+
+-- no more entries pass a test than there are
+pub those-short : {A : Type 0} (p : A → Bool) (xs : List A) → length (those p xs) ≤ length xs
+those-short p [] = omega arith
+those-short p (x ∷ xs) = let e = those-short p xs in by-cases (p x) (λ q. rw q (omega arith)) (λ q. rw q (omega arith))
 
 -- ---- two lists, one after the other
 

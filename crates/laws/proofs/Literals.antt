@@ -92,6 +92,14 @@ value-at : (vs : List ℕ) (t l : ℕ) → termOf l ≡ t → valueOf vs l ≡ (
 unfolding valueOf
 value-at vs t l e = ap (λ (k : ℕ). (getD vs k 0 + l % 2) % 2) e
 
+-- and as t turns
+value-turned : (vs : List ℕ) (t l : ℕ) → getD vs t 0 < 2 → t < length vs → termOf l ≡ t → valueOf (turned t vs) l ≡ 1 - valueOf vs l
+value-turned vs t l b h e =
+    let v = value-at vs t l e in
+    let w = value-at (turned t vs) t l e in
+    let s = turned-same t vs h in
+    omega arith
+
 -- the true literal is true and the false one false, and the other way round as t turns
 module _ (vs : List ℕ) (t : ℕ) (b : getD vs t 0 < 2) where
   pub true-before : valueOf vs (trueLiteral vs t) ≡ 1
@@ -101,18 +109,10 @@ module _ (vs : List ℕ) (t : ℕ) (b : getD vs t 0 < 2) where
   false-before = let e = false-is vs t b in let v = value-at vs t (falseLiteral vs t) (false-term vs t b) in omega arith
 
   pub true-after : t < length vs → valueOf (turned t vs) (trueLiteral vs t) ≡ 0
-  true-after l =
-      let e = true-is vs t b in
-      let v = value-at (turned t vs) t (trueLiteral vs t) (true-term vs t b) in
-      let w = turned-same t vs l in
-      omega arith
+  true-after l = value-turned vs t (trueLiteral vs t) b l (true-term vs t b) ∙ ap (λ (k : ℕ). 1 - k) true-before
 
   pub false-after : t < length vs → valueOf (turned t vs) (falseLiteral vs t) ≡ 1
-  false-after l =
-      let e = false-is vs t b in
-      let v = value-at (turned t vs) t (falseLiteral vs t) (false-term vs t b) in
-      let w = turned-same t vs l in
-      omega arith
+  false-after l = value-turned vs t (falseLiteral vs t) b l (false-term vs t b) ∙ ap (λ (k : ℕ). 1 - k) false-before
 
 -- ---- clauses
 

@@ -2,11 +2,11 @@
 use Prim.Native.Nat.{ℕ, zero, suc, _+_, _-_, _≤_, _<_}
 use mathlib.Core.Path.{_≡_, refl, ap, ap₂, sym, _∙_}
 use mathlib.Core.Bool.{true}
-use mathlib.Core.List.{List, [], _∷_, _++_}
+use mathlib.Core.List.{List, [], _∷_, _++_, append-assoc}
 use native.Mathlib.Omega.{arith}
 use native.Mathlib.Nat.{sub-zero, zero-sub, suc-sub-suc}
 use lib.ListN.{length, getD, take, drop, length-append, length-replicate, length-drop, take-append-drop, List·getD-append, List·getD-eq-default}
-use lib.Seq.{getD-append-add, getD-drop, length-take-le, take-take, take-at, drop-at}
+use lib.Seq.{getD-append-add, getD-drop, length-take-le, take-take, take-at, drop-at, drop-append-le}
 use lib.Dec.{eqb}
 use borrow.Author.Tests.{eqb-true}
 use Rattle.written.specs.Lists.{all, zeros, padded}
@@ -96,3 +96,22 @@ pub drop-zeros : (k n : ℕ) → drop k (zeros n) ≡ zeros (n - k)
 drop-zeros zero n = ap zeros (sym (sub-zero n))
 drop-zeros (suc k) zero = ap zeros (sym (zero-sub (suc k)))
 drop-zeros (suc k) (suc n) = drop-zeros k n ∙ ap zeros (sym (suc-sub-suc n k))
+
+-- a list written over entries of 0 is filled up with 0
+pub over-zeros : (n : ℕ) (xs old : List ℕ) → length xs ≤ n → over xs (over (zeros n) old) ≡ over (padded n xs) old
+over-zeros n xs old h =
+    let many = length-replicate {A = ℕ} n 0 in
+    ap (λ (r : List ℕ). xs ++ r)
+    (drop-append-le (length xs) (zeros n) (drop (length (zeros n)) old) (omega arith)
+    ∙ ap (λ (r : List ℕ). r ++ drop (length (zeros n)) old) (drop-zeros (length xs) n))
+    ∙ sym (append-assoc xs (zeros (n - length xs)) (drop (length (zeros n)) old))
+    ∙ ap (λ (k : ℕ). padded n xs ++ drop k old) (many ∙ sym (padded-length n xs h))
+
+-- and so is one that is written over another of its length that was filled up
+pub over-again : (n : ℕ) (new xs old : List ℕ) → length new ≡ length xs → over new (over (padded n xs) old) ≡ over (padded n new) old
+over-again n new xs old e =
+    let f : length (padded n xs) ≡ length (padded n new) = length-append xs _ ∙ ap (λ (k : ℕ). k + length (zeros (n - k))) (sym e) ∙ sym (length-append new _) in
+    ap (λ (ys : List ℕ). new ++ drop (length new) ys) (append-assoc xs (zeros (n - length xs)) _)
+    ∙ ap (λ (ys : List ℕ). new ++ ys) (drop-at xs _ (length new) (sym e))
+    ∙ sym (append-assoc new (zeros (n - length xs)) _)
+    ∙ ap₂ {C = List ℕ} (λ k j. (new ++ zeros (n - k)) ++ drop j old) (sym e) f

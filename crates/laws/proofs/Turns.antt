@@ -1,7 +1,7 @@
 -- What holds of a reading if every turn keeps it: each token's cases, and the induction over the turns. Assumes nothing.
 use Prim.Native.Nat.{ℕ, zero, suc, _<_}
 use mathlib.Core.Path.{_≡_, refl, ap}
-use mathlib.Core.Bool.{Bool, true, false, not, _&&_}
+use mathlib.Core.Bool.{Bool, true, false, not, _&&_, _||_}
 use mathlib.Core.List.{List, [], _∷_}
 use native.Mathlib.Omega.{arith}
 use borrow.Author.Tests.{leb-false}
@@ -11,7 +11,7 @@ use Rattle.scan.specs.declared.Cursor.{Cursor}
 use Rattle.scan.specs.declared.Lit.{Lit}
 use Rattle.scan.specs.declared.Token.{Token}
 use Rattle.scan.specs.declared.Token.the-variants.{Literal, True, Line, End, Cut, Bad, Long}
-use Rattle.scan.specs.Scan.{scan, takes, lineOf}
+use Rattle.scan.specs.Scan.{scan, takes, reasonOf, lineOf}
 use Rattle.written.specs.declared.Reason.{Reason}
 use Rattle.written.specs.declared.Reason.the-variants.{OpenEnd, BadByte, LongName, TermRoom, LiteralRoom, ClauseRoom}
 use Rattle.written.specs.Lists.{has}
@@ -26,15 +26,9 @@ After P Q t c (goes d) = P c d
 After P Q t c (drops d) = P (nextLine t c) d
 After P Q t c (ends r) = Q r
 
--- whether a token tells of a place in the text: the text's end does not
+-- whether a token tells of a place in the text: it takes bytes, or is reason 4 or 5
 abbrev pub inText : Token → Bool
-inText (Literal l) = true
-inText (True n) = true
-inText (Line n) = true
-inText (End n) = false
-inText (Cut n) = false
-inText (Bad n) = true
-inText (Long n) = true
+inText k = takes k || ltb 3 (reasonOf k)
 
 -- "The line is that of the fault for 4 to 8 [..], else 0"
 abbrev pub namesLine : Reason → Bool

@@ -1,17 +1,17 @@
 -- Tables of nothing but 0: all of them cleared, what is written over one, and one that is cleared again, or from a place on. Assumes nothing.
 use mathlib.Core.Path.{_≡_, ap, ap₂, sym, _∙_}
 use mathlib.Core.Bool.{true}
-use mathlib.Core.List.{List, _++_, append-assoc}
+use mathlib.Core.List.{List, _++_}
 use Prim.Native.Nat.{ℕ, suc, _+_, _-_, _≤_, _<_}
 use native.Mathlib.Omega.{arith}
 use lib.ListN.{length, getD, set, take, drop, length-drop, length-replicate, getD-replicate, List·getD-append}
-use lib.Seq.{drop-drop, take-all, length-take-le, drop-append-le, paste, paste-zero, paste-suc}
+use lib.Seq.{drop-drop, take-all, length-take-le, paste, paste-zero, paste-suc}
 use Rattle.written.specs.Lists.{zeros, padded}
 use Rattle.written.specs.Limits.{Limits}
 use Rattle.written.specs.Tables.{Tables, fullSizes, areFull, over, cleared}
 use Rattle.laws.proofs.Basics.{by-lt}
 use Rattle.laws.proofs.Lists.{padded-length}
-use Rattle.laws.proofs.Padding.{over-zero, over-past, drop-zeros}
+use Rattle.laws.proofs.Padding.{over-zero, over-past, over-zeros}
 use Rattle.laws.proofs.Each.{Table, at, by-each, each-at}
 use Rattle.laws.proofs.Holding.{full-at, cleared-at}
 use Rattle.machine.specs.Passes.{zeroed}
@@ -25,16 +25,6 @@ unfolding blanked
 blanked-is lim t full =
     by-each _ _
     (λ k. each-at zeroed k (fullSizes lim) t ∙ zeroed-over (at k (fullSizes lim)) (at k t) (full-at lim t k full) ∙ sym (cleared-at lim t k))
-
--- a list written over entries of 0 is filled up with 0
-over-zeros : (n : ℕ) (xs old : List ℕ) → length xs ≤ n → over xs (over (zeros n) old) ≡ over (padded n xs) old
-over-zeros n xs old h =
-    let many = length-replicate {A = ℕ} n 0 in
-    ap (λ (r : List ℕ). xs ++ r)
-    (drop-append-le (length xs) (zeros n) (drop (length (zeros n)) old) (omega arith)
-    ∙ ap (λ (r : List ℕ). r ++ drop (length (zeros n)) old) (drop-zeros (length xs) n))
-    ∙ sym (append-assoc xs (zeros (n - length xs)) (drop (length (zeros n)) old))
-    ∙ ap (λ (k : ℕ). padded n xs ++ drop k old) (many ∙ sym (padded-length n xs h))
 
 -- one of tables that are cleared
 module _ (lim : Limits) (t : Tables) (bare : cleared lim t ≡ t) (k : Table) where

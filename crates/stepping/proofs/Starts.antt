@@ -1,16 +1,16 @@
 -- A start on tables that hold a moment: it can be made, and the tables then hold the moment that is written for it. Assumes nothing.
-use mathlib.Core.Path.{_≡_, refl, ap, ap₂, sym, _∙_}
-use mathlib.Core.List.{List, _++_, append-assoc}
-use Prim.Native.Nat.{ℕ, _+_, _-_, _<_}
+use mathlib.Core.Path.{_≡_, refl, ap, sym, _∙_}
+use mathlib.Core.List.{List}
+use Prim.Native.Nat.{ℕ, _+_, _<_}
 use native.Mathlib.Omega.{arith}
-use lib.ListN.{length, drop, length-append}
-use lib.Seq.{drop-at}
+use lib.ListN.{length}
 use Rattle.words.specs.Words.{wordCount}
-use Rattle.written.specs.Lists.{zeros, padded}
+use Rattle.written.specs.Lists.{padded}
 use Rattle.written.specs.Clauses.{State, afresh}
 use Rattle.written.specs.Drawing.{startValues, startState}
 use Rattle.written.specs.Tables.{wordsOf, over}
 use Rattle.written.specs.Walk.{Moment, start}
+use Rattle.laws.proofs.Padding.{over-again}
 use Rattle.laws.proofs.Values.{words-length}
 use Rattle.laws.proofs.Starts.{start-length, start-bits, filled-start}
 use Rattle.laws.proofs.Endings.{start-values}
@@ -23,15 +23,6 @@ use Rattle.machine.proofs.Begins.{over-begins, words-hold}
 use Rattle.machine.proofs.Recounted.{recount-can, recounted-walking, recounted-kept, agree-ready}
 use Rattle.stepping.specs.Stepping.{Stand, drawnFor, startIn, CanStart}
 use Rattle.stepping.specs.Following.{walking, Follows, CanBegin, CanGo}
-
--- a list filled up and written over another, written over by one as long
-over-again : (n : ℕ) (new xs old : List ℕ) → length new ≡ length xs → over new (over (padded n xs) old) ≡ over (padded n new) old
-over-again n new xs old e =
-    let f : length (padded n xs) ≡ length (padded n new) = length-append xs _ ∙ ap (λ (k : ℕ). k + length (zeros (n - k))) (sym e) ∙ sym (length-append new _) in
-    ap (λ (ys : List ℕ). new ++ drop (length new) ys) (append-assoc xs (zeros (n - length xs)) _)
-    ∙ ap (λ (ys : List ℕ). new ++ ys) (drop-at xs _ (length new) (sym e))
-    ∙ sym (append-assoc new (zeros (n - length xs)) _)
-    ∙ ap₂ {C = List ℕ} (λ k j. (new ++ zeros (n - k)) ++ drop j old) (sym e) f
 
 module _ (ρ : State → ℕ → ℕ) (top full : ℕ) (x : Fixed) (base : Moving) (m : Moment) (v : Stand) (f : Follows ρ top full x base m v) where
   abbrev terms : ℕ
