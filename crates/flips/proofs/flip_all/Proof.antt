@@ -1,3 +1,4 @@
+-- `flips::flip_all` meets its contract: a loop over a run of flips. Assumes nothing.
 use mathlib.Core.Path.{_≡_, refl, _∙_}
 use Prim.Native.Nat.{_-_}
 use native.Mathlib.Omega.{arith}

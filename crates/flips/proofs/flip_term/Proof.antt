@@ -1,3 +1,4 @@
+-- `flips::flip_term` meets its contract: it is put together from its calls. Assumes nothing.
 use native.Mathlib.Omega.{arith}
 use Rattle.machine.proofs.Calls.{other-down, can-up, can-down, can-gain, is-gained, can-lose, is-flipped}
 use borrow.Author.Needs.{needs}

@@ -1,3 +1,4 @@
+-- `flips::gain_one` meets its contract: each way out by the case of the clause's count. Assumes nothing.
 use mir.Facts.{fits-16-64}
 use Rattle.machine.specs.Uncovered.{marks}
 use Rattle.machine.proofs.Steps.{gain-0, gain-light, can-lower-by}

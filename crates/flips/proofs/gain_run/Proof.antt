@@ -1,3 +1,4 @@
+-- `flips::gain_run` meets its contract: a loop over a run of steps. Assumes nothing.
 use Prim.Native.Nat.{_-_}
 use lib.ListN.{length}
 use Rattle.machine.specs.Tallies.{tallies, SameSizes, CanGain, gainOne}

@@ -1,3 +1,4 @@
+-- `flips::leave` meets its contract: the code is the definition, written out. Assumes nothing.
 use mathlib.Core.Path.{refl}
 use native.Mathlib.Omega.{arith}
 use lib.ListN.{length-set}

@@ -1,3 +1,4 @@
+-- `flips::lose_one` meets its contract: each way out by the case of the clause's count. Assumes nothing.
 use mir.Facts.{fits-16-64, fits-xor}
 use Rattle.machine.specs.Uncovered.{marks}
 use Rattle.machine.proofs.Steps.{lose-1, lose-light, can-raise-by}

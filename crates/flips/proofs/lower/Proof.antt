@@ -1,3 +1,4 @@
+-- `flips::lower` meets its contract: the code is the definition, written out. Assumes nothing.
 use mathlib.Core.Path.{refl}
 use Rattle.machine.specs.Tallies.{lowered}
 use borrow.Author.Needs.{needs}

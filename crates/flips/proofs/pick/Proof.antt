@@ -1,3 +1,4 @@
+-- `flips::pick` meets its contract: each way out has the test that leads there. Assumes nothing.
 use borrow.Author.Tests.{lt-ltb, le-ltb}
 use Rattle.machine.specs.Tallies.{pickOf}
 use Rattle.flips.proofs.pick.Statement.{statement}

@@ -1,3 +1,4 @@
+-- `flips::up_literal` meets its contract: twice the term, and its value. Assumes nothing.
 use mathlib.Core.Path.{ap}
 use Prim.Native.Nat.{ℕ, _+_, _*_}
 use Rattle.machine.specs.Moving.{upOf}

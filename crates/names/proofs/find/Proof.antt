@@ -1,3 +1,4 @@
+-- `names::find` meets its contract: the slots passed hold other names. Assumes nothing.
 use native.Mathlib.Omega.{arith}
 use Prim.Native.Nat.{_+_, _-_}
 use lib.ListN.{take}

@@ -1,3 +1,4 @@
+-- `taking::literal` meets its contract: each way out has the test that leads there. Assumes nothing.
 use native.Mathlib.Omega.{arith}
 use borrow.Author.Needs.{needs}
 use Rattle.written.specs.Clauses.{literalOf}

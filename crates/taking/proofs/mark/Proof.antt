@@ -1,3 +1,4 @@
+-- `taking::mark` meets its contract: the literal, and its place as a stamp. Assumes nothing.
 use native.Mathlib.Omega.{arith}
 use mathlib.Core.Path.{refl}
 use borrow.Author.Needs.{needs}

@@ -1,3 +1,4 @@
+-- `taking::seen` meets its contract: each way out by what the stamp shows. Assumes nothing.
 use mathlib.Core.Path.{sym, _∙_}
 use native.Mathlib.Omega.{arith}
 use lib.ListN.{getD}

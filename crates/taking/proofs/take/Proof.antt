@@ -1,3 +1,4 @@
+-- `taking::take` meets its contract: each way out by the law of what the literal comes to. Assumes nothing.
 use native.Mathlib.Omega.{arith}
 use borrow.Author.Needs.{needs}
 use Rattle.written.specs.Limits.{narrow}
