@@ -12,7 +12,7 @@ use Rattle.machine.specs.Moving.{Fixed, fixed, occurring, Moving, view, CanPart
 use Rattle.machine.specs.Passes.{CanRecount, blank, counted, recounted}
 use Rattle.machine.proofs.Calls.{flip-occurring, can-occurring}
 use Rattle.choosing.specs.Choosing.{pick, breakIn, literalBy, CanPick}
-use Rattle.stepping.specs.Stepping.{Stand, stand, listOf, clauseFor, clauseAt, literalFor, flipFor, stepIn, CanStep, startIn, CanStart, onwardsIn, walkIn}
+use Rattle.stepping.specs.Stepping.{Stand, stand, uncoveredList, clauseFor, clauseAt, literalFor, flipFor, stepIn, CanStep, startIn, CanStart, onwardsIn, walkIn}
 use Rattle.stepping.specs.Following.{CanBegin, CanGo}
 use Rattle.stepping.proofs.Starts.{start-can, start-goes}
 
@@ -32,7 +32,7 @@ module _ (T C : ℕ) (x : Fixed) (v : Stand) {ws : List ℕ} (w : ws ≡ filled 
   is-started g e = rw (e, g, w)
 
 -- a step: a clause is picked, then a literal in it, whose term is flipped
-module _ (top room : ℕ) (o : Order) (x : Fixed) (v : Stand) (h : CanStep top room o x v) {c y : ℕ} (p : pick c y ≡ chosenFrom o (listOf v) (v .generator)) where
+module _ (top room : ℕ) (o : Order) (x : Fixed) (v : Stand) (h : CanStep top room o x v) {c y : ℕ} (p : pick c y ≡ chosenFrom o (uncoveredList v) (v .generator)) where
   is-clause : pick c y ≡ clauseFor o v
   unfolding clauseFor
   is-clause = p

@@ -5,7 +5,7 @@ use native.Mathlib.Omega.{arith}
 use borrow.Author.Tests.{eq-eqb, ne-eqb}
 use Rattle.written.specs.declared.Order.{Order}
 use Rattle.machine.specs.Moving.{Fixed}
-use Rattle.stepping.specs.Stepping.{Stand, numberOf, stepIn, CanStep, isFoundIn, onwardsIn}
+use Rattle.stepping.specs.Stepping.{Stand, uncoveredNumber, stepIn, CanStep, isFoundIn, onwardsIn}
 use Rattle.stepping.specs.Following.{CanGo}
 use Rattle.stepping.proofs.Steps.{step-can, step-goes}
 
@@ -23,12 +23,12 @@ module _ (top room most : ℕ) (o : Order) (x : Fixed) (u : Stand) where
 
   module _ (v : Stand) (g : Going v) where
     -- no clause is uncovered: no step changes anything
-    stays : (k : ℕ) → numberOf v ≡ 0 → onwardsIn o x k v ≡ v
+    stays : (k : ℕ) → uncoveredNumber v ≡ 0 → onwardsIn o x k v ≡ v
     unfolding onwardsIn isFoundIn
     stays zero e = refl
     stays (suc k) e = rw (eq-eqb _ _ e)
 
-    pub found : numberOf v ≡ 0 → v ≡ onwardsIn o x (o .flips) u
+    pub found : uncoveredNumber v ≡ 0 → v ≡ onwardsIn o x (o .flips) u
     found e = sym (stays (leftAt v) e) ∙ g .rest
 
     -- no step is left
@@ -37,7 +37,7 @@ module _ (top room most : ℕ) (o : Order) (x : Fixed) (u : Stand) where
     ended h = let e : leftAt v ≡ 0 = omega arith in rw e at (g .rest)
 
     -- one more can be made, and then one less is left
-    module _ (h : v .flips < u .flips + o .flips) (e : numberOf v ≡ 0 → ⊥) where
+    module _ (h : v .flips < u .flips + o .flips) (e : uncoveredNumber v ≡ 0 → ⊥) where
       pub next-can : CanStep top room o x v × (v .flips + 1 < most)
       next-can = (step-can top room (leftAt v) most o x v (g .can) e, omega (arith, g .can .few, h))
 

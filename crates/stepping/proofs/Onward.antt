@@ -11,15 +11,15 @@ use Rattle.written.specs.Walk.{Moment, start, onwards}
 use Rattle.laws.proofs.Basics.{by-cases}
 use Rattle.laws.proofs.Endings.{onwards-keeps, start-file, step-file}
 use Rattle.machine.specs.Moving.{Fixed, Moving}
-use Rattle.stepping.specs.Stepping.{Stand, numberOf, stepIn, startIn, isFoundIn, onwardsIn, walkIn}
+use Rattle.stepping.specs.Stepping.{Stand, uncoveredNumber, stepIn, startIn, isFoundIn, onwardsIn, walkIn}
 use Rattle.stepping.specs.Following.{walking, Follows, CanBegin}
 use Rattle.stepping.proofs.Starts.{start-follows}
 use Rattle.stepping.proofs.Steps.{found-same, step-follows}
 
 -- not found: a clause is uncovered
-some-left : (v : Stand) → isFoundIn v ≡ false → numberOf v ≡ 0 → ⊥
+some-left : (v : Stand) → isFoundIn v ≡ false → uncoveredNumber v ≡ 0 → ⊥
 unfolding isFoundIn
-some-left v q = eqb-false (numberOf v) 0 q
+some-left v q = eqb-false (uncoveredNumber v) 0 q
 
 pub onwards-follows : (top full : ℕ) (o : Order) (x : Fixed) (base : Moving) (k : ℕ) (m : Moment) (v : Stand) → Follows walking top full x base m v
     → Follows walking top full x base (onwards o k m) (onwardsIn o x k v)

@@ -28,23 +28,23 @@ use Rattle.machine.proofs.Law.{flip-can, flip-walking, flip-kept}
 use Rattle.machine.proofs.Standings.{kept-trans}
 use Rattle.machine.proofs.Sizes.{sizes-trans, flip-sizes}
 use Rattle.choosing.specs.Choosing.{breakIn}
-use Rattle.stepping.specs.Stepping.{Stand, numberOf, listOf, clauseFor, clauseAt, literalFor, stepIn, CanStep, isFoundIn}
+use Rattle.stepping.specs.Stepping.{Stand, uncoveredNumber, uncoveredList, clauseFor, clauseAt, literalFor, stepIn, CanStep, isFoundIn}
 use Rattle.stepping.specs.Following.{walking, Follows, CanGo}
 use Rattle.stepping.proofs.Picking.{literal-same}
 
 -- as many clauses are uncovered as are listed
 module _ (ρ : State → ℕ → ℕ) (top full : ℕ) (x : Fixed) (base : Moving) (m : Moment) (v : Stand) (f : Follows ρ top full x base m v) where
-  listed : numberOf v ≤ length (v .tables .tallies .uncovered .list)
+  listed : uncoveredNumber v ≤ length (v .tables .tallies .uncovered .list)
   listed = let a = f .tables .places .fits in let b = f .tables .places .list-room in omega arith
 
-  number-is : length (listOf v) ≡ numberOf v
-  number-is = length-take-le (numberOf v) _ listed
+  number-is : length (uncoveredList v) ≡ uncoveredNumber v
+  number-is = length-take-le (uncoveredNumber v) _ listed
 
   pub found-same : isFoundIn v ≡ isFound (m .state)
   unfolding isFoundIn isFound
   found-same = rw (← f .tables .list, number-is)
 
-module _ (top full : ℕ) (o : Order) (x : Fixed) (base : Moving) (m : Moment) (v : Stand) (f : Follows walking top full x base m v) (some : numberOf v ≡ 0 → ⊥) where
+module _ (top full : ℕ) (o : Order) (x : Fixed) (base : Moving) (m : Moment) (v : Stand) (f : Follows walking top full x base m v) (some : uncoveredNumber v ≡ 0 → ⊥) where
   abbrev vs : List ℕ
   vs = m .state .values
 
@@ -59,10 +59,10 @@ module _ (top full : ℕ) (o : Order) (x : Fixed) (base : Moving) (m : Moment) (
   abbrev l : ℕ
   l = literalFor o x v .picked
 
-  many : length (listOf v) ≡ numberOf v
+  many : length (uncoveredList v) ≡ uncoveredNumber v
   many = number-is walking top full x base m v f
 
-  any : 0 < length (listOf v)
+  any : 0 < length (uncoveredList v)
   any = omega (arith, many, some)
 
   -- the clause is the written one, and its part holds it
@@ -73,9 +73,9 @@ module _ (top full : ℕ) (o : Order) (x : Fixed) (base : Moving) (m : Moment) (
   c-below : c < length (m .state .file .clauses)
   unfolding clauseFor chosenFrom choice
   c-below =
-      let j : ℕ = choiceOf (length (listOf v)) (v .generator) .number in
-      let lj : j < numberOf v = omega (arith, many, choice-lt (length (listOf v)) (v .generator) any) in
-      rw (getD-take (numberOf v) (v .tables .tallies .uncovered .list) j 0 lj) (f .tables .places .within j lj)
+      let j : ℕ = choiceOf (length (uncoveredList v)) (v .generator) .number in
+      let lj : j < uncoveredNumber v = omega (arith, many, choice-lt (length (uncoveredList v)) (v .generator) any) in
+      rw (getD-take (uncoveredNumber v) (v .tables .tallies .uncovered .list) j 0 lj) (f .tables .places .within j lj)
 
   clause-is : clauseAt x (clauseFor o v) ≡ ls
   clause-is = f .tables .holds .clause c c-below
@@ -140,11 +140,11 @@ module _ (top full : ℕ) (o : Order) (x : Fixed) (base : Moving) (m : Moment) (
       }
 
 -- a step can be made
-pub step-can : (top room k most : ℕ) (o : Order) (x : Fixed) (v : Stand) → CanGo top room k most x v → (numberOf v ≡ 0 → ⊥) → CanStep top room o x v
+pub step-can : (top room k most : ℕ) (o : Order) (x : Fixed) (v : Stand) → CanGo top room k most x v → (uncoveredNumber v ≡ 0 → ⊥) → CanStep top room o x v
 step-can top room k most o x v g some = can top (g .full) o x (g .base) (g .moment) v (g .follows) some room (g .fits)
 
 -- and the walk can go on after it
-pub step-goes : (top room k most : ℕ) (o : Order) (x : Fixed) (v : Stand) → CanGo top room (suc k) most x v → (numberOf v ≡ 0 → ⊥) → CanGo top room k most x (stepIn o x v)
+pub step-goes : (top room k most : ℕ) (o : Order) (x : Fixed) (v : Stand) → CanGo top room (suc k) most x v → (uncoveredNumber v ≡ 0 → ⊥) → CanGo top room k most x (stepIn o x v)
 unfolding stepIn step inClause flipPicked flip
 step-goes top room k most o x v g some =
     record {

@@ -23,17 +23,17 @@ abbrev pub stand : List ℕ → Tallies → ℕ → ℕ → Stand
 stand ws t y k = record { tables = moving ws t; generator = y; flips = k }
 
 -- how many clauses are uncovered, and which
-abbrev pub numberOf : Stand → ℕ
-numberOf v = v .tables .tallies .uncovered .number
+abbrev pub uncoveredNumber : Stand → ℕ
+uncoveredNumber v = v .tables .tallies .uncovered .number
 
-abbrev pub listOf : Stand → List ℕ
-listOf v = take (numberOf v) (v .tables .tallies .uncovered .list)
+abbrev pub uncoveredList : Stand → List ℕ
+uncoveredList v = take (uncoveredNumber v) (v .tables .tallies .uncovered .list)
 
 -- ---- a step
 
 -- 3: the clause that is picked
 unfoldable pub clauseFor : Order → Stand → Pick
-clauseFor o v = chosenFrom o (listOf v) (v .generator)
+clauseFor o v = chosenFrom o (uncoveredList v) (v .generator)
 
 abbrev pub clauseAt : Fixed → Pick → List ℕ
 clauseAt x p = partOf (x .starts) (x .literals) (p .picked)
@@ -51,8 +51,8 @@ stepIn o x v = flipFor x v (literalFor o x v)
 
 -- what a step asks; top is 2 to the width of an entry, and there is room for so many literals at the least
 pub record CanStep (top room : ℕ) (o : Order) (x : Fixed) (v : Stand) : Type 0 where
-  pub list : numberOf v ≤ length (v .tables .tallies .uncovered .list)
-  pub draw : CanDraw top (listOf v)
+  pub list : uncoveredNumber v ≤ length (v .tables .tallies .uncovered .list)
+  pub draw : CanDraw top (uncoveredList v)
   pub clause : CanPart (x .starts) (x .literals) (clauseFor o v .picked)
   pub pick : CanPick top room (v .tables .tallies .breaks) (clauseAt x (clauseFor o v))
   pub flip : CanFlip top x (literalFor o x v .picked / 2) (v .tables)
@@ -74,7 +74,7 @@ pub record CanStart (top T C : ℕ) (x : Fixed) (v : Stand) : Type 0 where
 
 -- 2: "If no clause is uncovered: found."
 unfoldable pub isFoundIn : Stand → Bool
-isFoundIn v = eqb (numberOf v) 0
+isFoundIn v = eqb (uncoveredNumber v) 0
 
 -- steps until found, or until k are made
 unfoldable pub onwardsIn : Order → Fixed → ℕ → Stand → Stand

@@ -6,7 +6,7 @@ use native.Mathlib.Omega.{arith}
 use borrow.Author.Tests.{eq-eqb, ne-eqb}
 use Rattle.written.specs.declared.Order.{Order}
 use Rattle.machine.specs.Moving.{Fixed}
-use Rattle.stepping.specs.Stepping.{Stand, numberOf, isFoundIn, walkIn}
+use Rattle.stepping.specs.Stepping.{Stand, uncoveredNumber, isFoundIn, walkIn}
 use Rattle.stepping.specs.Following.{CanBegin}
 use Rattle.walks.specs.Walking.{End, end, walksIn, CanWalks}
 use Rattle.walks.proofs.Followed.{walks-on, one-fits}
@@ -49,16 +49,16 @@ module _ (top room most T C : ℕ) (o : Order) (x : Fixed) (u : Stand) where
 
     module _ {w : Stand} (f : w ≡ walkIn o T C x v) where
       -- and has found
-      left-found : (k : ℕ) → Left k n v → n < o .walks → numberOf w ≡ 0 → end true (n + 1) w ≡ whole
+      left-found : (k : ℕ) → Left k n v → n < o .walks → uncoveredNumber w ≡ 0 → end true (n + 1) w ≡ whole
       unfolding walksIn isFoundIn
       left-found zero g h e = absurd (omega (arith, g .sum, h))
       left-found (suc k) g h e = let more : n + 1 ≡ suc n = omega arith in rw (more, f) (rw (eq-eqb _ _ (rw f at e)) at (g .rest))
 
-      pub found : Going n v → n < o .walks → numberOf w ≡ 0 → end true (n + 1) w ≡ whole
+      pub found : Going n v → n < o .walks → uncoveredNumber w ≡ 0 → end true (n + 1) w ≡ whole
       found g h e = left-found (g .count) (g .left) h e
 
       -- or not, and one less is left
-      left-again : (k : ℕ) → Left k n v → n < o .walks → (numberOf w ≡ 0 → ⊥) → Going (n + 1) w
+      left-again : (k : ℕ) → Left k n v → n < o .walks → (uncoveredNumber w ≡ 0 → ⊥) → Going (n + 1) w
       unfolding walksIn isFoundIn
       left-again zero g h e = absurd (omega (arith, g .sum, h))
       left-again (suc k) g h e =
@@ -73,5 +73,5 @@ module _ (top room most T C : ℕ) (o : Order) (x : Fixed) (u : Stand) where
                 };
           }
 
-      pub again : Going n v → n < o .walks → (numberOf w ≡ 0 → ⊥) → Going (n + 1) w
+      pub again : Going n v → n < o .walks → (uncoveredNumber w ≡ 0 → ⊥) → Going (n + 1) w
       again g h e = left-again (g .count) (g .left) h e

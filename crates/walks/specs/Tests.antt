@@ -8,7 +8,7 @@ use Rattle.written.specs.Limits.{Limits}
 use Rattle.written.specs.Tables.{Tables, areFull}
 use Rattle.written.specs.Agreement.{fileIn, agree}
 use Rattle.written.specs.Orders.{inRange}
-use Rattle.written.specs.Outcomes.{Leaves, walkRefused, walkLeaves}
+use Rattle.written.specs.Outcomes.{Leaves, walkLeaves}
 use Rattle.written.specs.Walk.{walkOver}
 use Rattle.walks.specs.declared.Tested.{Tested}
 use Rattle.walks.specs.declared.Tested.the-variants.{Passed, Failed}
@@ -23,8 +23,3 @@ testsOf lim o n t =
 -- what a walk answers and leaves once it is made
 abbrev pub walkMade : Limits → Order → Counts → Tables → Leaves Walked
 walkMade lim o n t = walkLeaves lim t (walkOver o (fileIn n t))
-
--- what a walk then answers and leaves
-unfoldable pub afterTests : Limits → Order → Counts → Tables → Tested → Leaves Walked
-afterTests lim o n t Passed = walkMade lim o n t
-afterTests lim o n t (Failed e) = walkRefused n t e
