@@ -5,14 +5,11 @@ use mathlib.Core.List.{List}
 use lib.ListN.{length}
 use lib.Dec.{ltb}
 use Rattle.written.specs.declared.Counts.{Counts}
-use Rattle.written.specs.declared.Flipped.{Flipped}
 use Rattle.written.specs.declared.Reason.the-variants.{ShortTable, Disagreement, UnknownTerm, LongList}
 use Rattle.written.specs.Lists.{all}
 use Rattle.written.specs.Limits.{Limits}
 use Rattle.written.specs.Tables.{Tables, areFull}
-use Rattle.written.specs.Agreement.{stateIn, agree}
-use Rattle.written.specs.Flips.{flipped}
-use Rattle.written.specs.Outcomes.{Leaves, flipsRefused, flipsLeave}
+use Rattle.written.specs.Agreement.{agree}
 use Rattle.lists.specs.declared.Tested.{Tested}
 use Rattle.lists.specs.declared.Tested.the-variants.{Passed, Failed}
 
@@ -23,8 +20,3 @@ testsOf lim ts n t =
     (cond (ltb (lim .list) (length ts)) (Failed LongList)
     (cond (not (agree lim n t)) (Failed Disagreement)
     (cond (not (all (λ v. ltb v (n .terms)) ts)) (Failed UnknownTerm) Passed)))
-
--- what a flip list then answers and leaves
-unfoldable pub afterTests : Limits → List ℕ → Counts → Tables → Tested → Leaves Flipped
-afterTests lim ts n t Passed = flipsLeave lim t (flipped ts (stateIn n t))
-afterTests lim ts n t (Failed e) = flipsRefused n t e
