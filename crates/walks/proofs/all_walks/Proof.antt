@@ -28,19 +28,24 @@ loop-holds c = (begun _ _ _ _ _ _ _ _ (c .before .before .before .before .before
 
 one-walk-requires : tie.Need-one-walk-requires Inv-loop μ-loop
 one-walk-requires c κs =
-    let i = c .before .before .before .before .before .before .before .before .loop .inv in
-    rw (i .3) (next-can _ _ _ _ _ _ _ _ _ _ (i .0) (c .before .before .before .before .before .before .if1 .taken))
+    let b = c .before .before .before .before .before .before in
+    let i = b .before .before .loop .inv in
+    rw (i .3) (next-can _ _ _ _ _ _ _ _ _ _ (i .0) (b .if1 .taken))
 
 returns : tie.Need-returns Inv-loop μ-loop
-returns c = found _ _ _ _ _ _ _ _ _ _ (c .before .before .before .before .before .before .before .before .before .before .before .before .before .before .one-walk .ensures) (c .before .before .before .before .before .before .before .before .before .before .before .before .before .before .before .before .before .before .before .before .before .before .before .loop .inv .0) (c .before .before .before .before .before .before .before .before .before .before .before .before .before .before .before .before .before .before .before .before .before .if1 .taken) (c .if2 .taken)
+returns c =
+    let w = c .before .before .before .before .before .before .before .before .before .before .before .before .before .before in
+    let t = w .before .before .before .before .before .before .before in
+    found _ _ _ _ _ _ _ _ _ _ (w .one-walk .ensures) (t .before .before .loop .inv .0) (t .if1 .taken) (c .if2 .taken)
 
 loop-again : tie.Need-loop-again Inv-loop μ-loop
 loop-again c =
-    let s = c .before .before .before .before .before .before .before .before .before .before .before .before .before .before .one-walk in
-    let i = c .before .before .before .before .before .before .before .before .before .before .before .before .before .before .before .before .before .before .before .before .before .before .before .loop .inv in
-    let k = s .kept .1 .1 .1 .1 .1 .1 .1 in
+    let w = c .before .before .before .before .before .before .before .before .before .before .before .before .before .before in
+    let b = w .before .before .before .before .before .before .before in
+    let i = b .before .before .loop .inv in
+    let k = w .one-walk .kept .1 .1 .1 .1 .1 .1 .1 in
     let t : SameSizes _ _ = record { trues-size = k .0; breaks-size = k .1 .0; list-size = k .1 .1 .0; places-size = k .1 .1 .1 .0 } in
-    (again _ _ _ _ _ _ _ _ _ _ (s .ensures) (i .0) (c .before .before .before .before .before .before .before .before .before .before .before .before .before .before .before .before .before .before .before .before .before .if1 .taken) (c .if2 .left), sizes-trans t (i .1), s .kept .1 .1 .0 ∙ i .2, k .1 .1 .1 .1 .0 ∙ i .3)
+    (again _ _ _ _ _ _ _ _ _ _ (w .one-walk .ensures) (i .0) (b .if1 .taken) (c .if2 .left), sizes-trans t (i .1), w .one-walk .kept .1 .1 .0 ∙ i .2, k .1 .1 .1 .1 .0 ∙ i .3)
 
 returns-2 : tie.Need-returns-2 Inv-loop μ-loop
 returns-2 c = over _ _ _ _ _ _ _ _ _ _ (c .before .before .loop .inv .0) (c .if1 .left)
