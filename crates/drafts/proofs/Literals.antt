@@ -49,21 +49,14 @@ by-fate lim d l =
     (by-cases (leb (lim .literals) (held d)) (λ f. rw f refl) (λ f. rw f
     (by-cases (has (l .name) (d .names)) (λ g. rw g refl) (λ g. rw g refl)))))))))
 
-one-term : (r : Taken) → newTerms r ≤ 1
-one-term Held = omega arith
-one-term Grown = omega arith
-one-term Skipped = omega arith
-one-term Dropped = omega arith
-one-term NoTerm = omega arith
-one-term NoRoom = omega arith
-
-one-literal : (r : Taken) → newLiterals r ≤ 1
-one-literal Held = omega arith
-one-literal Grown = omega arith
-one-literal Skipped = omega arith
-one-literal Dropped = omega arith
-one-literal NoTerm = omega arith
-one-literal NoRoom = omega arith
+-- it adds one term and one literal at the most
+one-each : (r : Taken) → (newTerms r ≤ 1) × (newLiterals r ≤ 1)
+one-each Held = (omega arith, omega arith)
+one-each Grown = (omega arith, omega arith)
+one-each Skipped = (omega arith, omega arith)
+one-each Dropped = (omega arith, omega arith)
+one-each NoTerm = (omega arith, omega arith)
+one-each NoRoom = (omega arith, omega arith)
 
 module _ (H : ℕ) (lim : Limits) (w₀ w : Desk) (p : Place) (d : Draft) (h : Drafted H lim w₀ w p d) (l : Lit) (n′ ls′ m′ o′ : List ℕ) where
   -- the tables after it
@@ -101,7 +94,7 @@ module _ (H : ℕ) (lim : Limits) (w₀ w : Desk) (p : Place) (d : Draft) (h : D
     line-grows =
         let known = known-are H lim w₀ w p d h in
         ap (λ (t : List ℕ). lineIn t (p .from) (p .held + newLiterals r)) (k .literals-left)
-        ∙ put-line (newLiterals r) (w .literals) (p .from) (p .held) _ (one-literal r) (h .ready .stamped .order)
+        ∙ put-line (newLiterals r) (w .literals) (p .from) (p .held) _ (one-each r .1) (h .ready .stamped .order)
         (omega (arith, k .again .few-literals, h .ready .literals-room))
         ∙ (λ i. moreIf (newLiterals r) (h .line-is i) (literalOf (placeOf (l .name) (known i)) (l .negated)))
 
@@ -111,7 +104,7 @@ module _ (H : ℕ) (lim : Limits) (w₀ w : Desk) (p : Place) (d : Draft) (h : D
           ready = k .again;
           starts-room = h .starts-room;
           few-clauses = h .few-clauses;
-          terms-are = omega (arith, h .terms-are, more-length (newTerms r) (d .names) (l .name) (one-term r));
+          terms-are = omega (arith, h .terms-are, more-length (newTerms r) (d .names) (l .name) (one-each r .0));
           clauses-are = h .clauses-are;
           from-is = h .from-is;
           names-are = names-grow;

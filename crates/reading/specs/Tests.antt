@@ -7,17 +7,9 @@ use lib.Dec.{ltb}
 use Rattle.scan.specs.Scan.{openEnd}
 use Rattle.written.specs.declared.Reason.the-variants.{LongText, OpenEnd}
 use Rattle.written.specs.Limits.{Limits}
-use Rattle.written.specs.Reasons.{fault}
-use Rattle.written.specs.Reading.{Reading, refused}
-use Rattle.drafts.specs.Drafting.{readAll}
 use Rattle.reading.specs.declared.Tested.{Tested}
 use Rattle.reading.specs.declared.Tested.the-variants.{Passed, Failed}
 
 -- what they come to
 unfoldable pub textTests : Limits → List ℕ → Tested
 textTests lim t = cond (ltb (lim .text) (length t)) (Failed LongText) (cond (openEnd t) (Failed OpenEnd) Passed)
-
--- what a reading then comes to
-unfoldable pub afterTests : Limits → List ℕ → Tested → Reading
-afterTests lim t Passed = readAll lim t
-afterTests lim t (Failed e) = refused (fault e)
