@@ -7,16 +7,20 @@ use Rattle.reports.specs.Pages.{Page}
 use Rattle.settled.specs.Outcomes.{Public, Inner}
 use Rattle.settled.proofs.Facts.{meet, same, both, all-three, ten, five}
 use Rattle.tables.proofs.true_count as true-count
+use Rattle.tables.proofs.xor_true as xor-true
 use Rattle.tables.proofs.one_for as one-for
 use Rattle.tables.proofs.clear as clear
 use Rattle.tables.proofs.clear_words as clear-words
 use Rattle.tables.proofs.clear_names as clear-names
 use Rattle.tables.proofs.raise as raise
 use Rattle.tables.proofs.enter as enter
-use Rattle.tables.proofs.turn_round as turn-round
-use Rattle.tables.proofs.open_all as open-all
-use Rattle.tables.proofs.close_all as close-all
-use Rattle.tables.proofs.count_afresh as count-afresh
+use Rattle.rounds.proofs.turn_round as turn-round
+use Rattle.recounts.proofs.open_all as open-all
+use Rattle.recounts.proofs.close_all as close-all
+use Rattle.recounts.proofs.count_afresh as count-afresh
+use Rattle.filed.proofs.clauses_hold as clauses-hold
+use Rattle.counted.proofs.counts_agree as counts-agree
+use Rattle.rests.proofs.rests_agree as rests-agree
 use Rattle.names.proofs.add as add
 use Rattle.flips.proofs.flip_term as flip-term
 use Rattle.flips.proofs.flip_all as flip-all
@@ -29,6 +33,9 @@ use Rattle.running.proofs.run_alone as run-alone
 
 pub true-count-settled : Public true-count.ended (λ M. true-count.clauses)
 true-count-settled M 𝓤 H A mem run κs a g = record { asks-nothing = refl; one-outcome = λ x y. both 𝓤 (λ p q. same (meet p q) refl) }
+
+pub xor-true-settled : Public xor-true.ended (λ M. xor-true.clauses)
+xor-true-settled M 𝓤 H A mem run κs a g = record { asks-nothing = refl; one-outcome = λ x y. both 𝓤 (λ p q. same (meet p q) refl) }
 
 pub one-for-settled : Public one-for.ended (λ M. one-for.clauses)
 one-for-settled M 𝓤 H A mem run κs a g = record { asks-nothing = refl; one-outcome = λ x y. both 𝓤 (λ p q. same (meet p q) refl) }
@@ -59,6 +66,15 @@ close-all-settled M 𝓤 H A mem run κs a g = record { one-outcome = λ x y. al
 
 pub count-afresh-settled : Inner count-afresh.ended (λ M. count-afresh.clauses)
 count-afresh-settled M 𝓤 H A mem run κs a g = record { one-outcome = λ x y. all-three 𝓤 (λ r p q. let e = meet p q in same (ap (λ t. t .uncovered .number) e) (ap (λ (t : Tallies). (tt, (tt, (tt, (tt, (tt, (t .trues, (t .breaks, (t .uncovered .list, (t .uncovered .places, tt)))))))))) e)) }
+
+pub clauses-hold-settled : Inner clauses-hold.ended (λ M. clauses-hold.clauses)
+clauses-hold-settled M 𝓤 H A mem run κs a g = record { one-outcome = λ x y. all-three 𝓤 (λ r p q. same (meet p q) refl) }
+
+pub counts-agree-settled : Inner counts-agree.ended (λ M. counts-agree.clauses)
+counts-agree-settled M 𝓤 H A mem run κs a g = record { one-outcome = λ x y. all-three 𝓤 (λ r p q. same (meet p q) refl) }
+
+pub rests-agree-settled : Inner rests-agree.ended (λ M. rests-agree.clauses)
+rests-agree-settled M 𝓤 H A mem run κs a g = record { one-outcome = λ x y. all-three 𝓤 (λ r p q. same (meet p q) refl) }
 
 pub add-settled : Inner add.ended (λ M. add.clauses)
 add-settled M 𝓤 H A mem run κs a g = record { one-outcome = λ x y. all-three 𝓤 (λ r p q. same refl (λ i. (meet (p .0) (q .0) i, (meet (p .1) (q .1) i, (tt, (tt, (tt, tt))))))) }
