@@ -8,7 +8,7 @@ use lib.ListN.{length, getD, set, take, drop, length-drop, length-replicate, get
 use lib.Seq.{drop-drop, take-all, length-take-le, paste, paste-zero, paste-suc}
 use Rattle.written.specs.Lists.{zeros, padded}
 use Rattle.written.specs.Limits.{Limits}
-use Rattle.written.specs.Tables.{Tables, fullSizes, areFull, over, cleared}
+use Rattle.written.specs.Tables.{Tables, lent, each, fullSizes, areFull, over, cleared}
 use Rattle.laws.proofs.Basics.{by-lt}
 use Rattle.laws.proofs.Lists.{padded-length}
 use Rattle.laws.proofs.Padding.{over-zero, over-past, over-zeros}
@@ -16,9 +16,18 @@ use Rattle.laws.proofs.Each.{Table, at, by-each, each-at}
 use Rattle.laws.proofs.Holding.{full-at, cleared-at}
 use Rattle.machine.specs.Passes.{zeroed}
 use Rattle.machine.proofs.Cleared.{zeroed-over, zeroed-back}
-use Rattle.reading.specs.Clearing.{blanked, restZeroed}
+use Rattle.drafts.specs.Drafting.{Desk}
+use Rattle.reading.specs.Clearing.{blanked, deskIn, wiped, Others, othersIn, wipedOthers, restZeroed}
 
 -- ---- all tables
+
+-- those of a draft and the others, each cleared
+pub both-wiped : (lim : Limits) (t : Tables) {w : Desk} {o : Others} → w ≡ wiped lim (deskIn t) → o ≡ wipedOthers lim (othersIn t)
+    → lent (w .names) (o .values) (w .starts) (w .literals) (o .occurrenceStarts) (o .occurrences) (o .trues) (w .stamps) (o .uncovered) (w .slots)
+    ≡ blanked lim t
+unfolding blanked each wiped wipedOthers
+both-wiped lim t e f =
+    λ i. lent (e i .names) (f i .values) (e i .starts) (e i .literals) (f i .occurrenceStarts) (f i .occurrences) (f i .trues) (e i .stamps) (f i .uncovered) (e i .slots)
 
 pub blanked-is : (lim : Limits) (t : Tables) → areFull lim t ≡ true → blanked lim t ≡ cleared lim t
 unfolding blanked

@@ -1,4 +1,4 @@
--- Tables made 0: all of them, those of a draft, and one from a place on. Assumes nothing.
+-- Tables made 0: all of them, those of a draft, the others, and one from a place on. Assumes nothing.
 use mathlib.Core.Path.{_≡_}
 use mathlib.Core.Bool.{true}
 use mathlib.Core.List.{List}
@@ -28,6 +28,26 @@ unfoldable pub wiped : Limits → Desk → Desk
 wiped lim w =
     desk (zeroed (fullSizes lim .names) (w .names)) (zeroed (fullSizes lim .starts) (w .starts)) (zeroed (fullSizes lim .literals) (w .literals))
     (zeroed (fullSizes lim .breaks) (w .stamps)) (zeroed (fullSizes lim .places) (w .slots))
+
+-- the tables that a draft does not use
+pub record Others : Type 0 where
+  pub values : List ℕ
+  pub occurrenceStarts : List ℕ
+  pub occurrences : List ℕ
+  pub trues : List ℕ
+  pub uncovered : List ℕ
+
+abbrev pub others : List ℕ → List ℕ → List ℕ → List ℕ → List ℕ → Others
+others v os oc tc u = record { values = v; occurrenceStarts = os; occurrences = oc; trues = tc; uncovered = u }
+
+abbrev pub othersIn : Tables → Others
+othersIn t = others (t .values) (t .occurrenceStarts) (t .occurrences) (t .trues) (t .uncovered)
+
+-- and these cleared
+unfoldable pub wipedOthers : Limits → Others → Others
+wipedOthers lim o =
+    others (zeroed (fullSizes lim .values) (o .values)) (zeroed (fullSizes lim .occurrenceStarts) (o .occurrenceStarts))
+    (zeroed (fullSizes lim .occurrences) (o .occurrences)) (zeroed (fullSizes lim .trues) (o .trues)) (zeroed (fullSizes lim .uncovered) (o .uncovered))
 
 -- the first entries stay, and from there up to n all become 0
 unfoldable pub restZeroed : ℕ → ℕ → List ℕ → List ℕ

@@ -10,7 +10,7 @@ ghost use Rattle.machine.specs.Tallies.{tallies};
 ghost use Rattle.machine.specs.Moving.{fixed, moving};
 ghost use Rattle.drafts.specs.Drafting.{desk};
 ghost use Rattle.reading.specs.Tests.{textTests};
-ghost use Rattle.reading.specs.Clearing.{blanked, Bare, wiped, restZeroed};
+ghost use Rattle.reading.specs.Clearing.{Bare, wiped, others, wipedOthers, restZeroed};
 ghost use Rattle.reading.specs.Finishing.{finishing, finished, CanFinish};
 use drafts::Ended;
 use drafts::Place;
@@ -40,38 +40,8 @@ fn verdict(text: &[u8]) -> Tested
 
 // ---- clearing
 
-// Every table to 0, in its full size.
-pub fn clear_all(
-    names: &mut [u64],
-    values: &mut [u32],
-    starts: &mut [u16],
-    literals: &mut [u16],
-    occurrence_starts: &mut [u16],
-    occurrences: &mut [u16],
-    trues: &mut [u16],
-    breaks: &mut [u16],
-    uncovered: &mut [u16],
-    places: &mut [u16],
-)
-    ensures { λ _. ⌜ lent (now (names .exit)) (now (values .exit)) (now (starts .exit)) (now (literals .exit))
-        (now («occurrence_starts» .exit)) (now (occurrences .exit)) (now (trues .exit)) (now (breaks .exit)) (now (uncovered .exit)) (now (places .exit))
-        ≡ blanked narrow (lent (now (names .entry)) (now (values .entry)) (now (starts .entry)) (now (literals .entry))
-        (now («occurrence_starts» .entry)) (now (occurrences .entry)) (now (trues .entry)) (now (breaks .entry)) (now (uncovered .entry)) (now (places .entry))) ⌝ }
-{
-    tables::clear_names(names, 2048);
-    tables::clear_words(values, 64);
-    tables::clear(starts, 8193);
-    tables::clear(literals, 16384);
-    tables::clear(occurrence_starts, 4097);
-    tables::clear(occurrences, 16384);
-    tables::clear(trues, 8192);
-    tables::clear(breaks, 2048);
-    tables::clear(uncovered, 8192);
-    tables::clear(places, 8192);
-}
-
 // The tables of a draft to 0: its stamps stand in the break counts, its slots in the places.
-fn clear_draft(
+pub fn clear_draft(
     names: &mut [u64],
     starts: &mut [u16],
     literals: &mut [u16],
@@ -86,6 +56,24 @@ fn clear_draft(
     tables::clear(literals, 16384);
     tables::clear(stamps, 2048);
     tables::clear(slots, 8192);
+}
+
+// The tables that a draft does not use, to 0.
+pub fn clear_others(
+    values: &mut [u32],
+    occurrence_starts: &mut [u16],
+    occurrences: &mut [u16],
+    trues: &mut [u16],
+    uncovered: &mut [u16],
+)
+    ensures { λ _. ⌜ others (now (values .exit)) (now («occurrence_starts» .exit)) (now (occurrences .exit)) (now (trues .exit)) (now (uncovered .exit))
+        ≡ wipedOthers narrow (others (now (values .entry)) (now («occurrence_starts» .entry)) (now (occurrences .entry)) (now (trues .entry)) (now (uncovered .entry))) ⌝ }
+{
+    tables::clear_words(values, 64);
+    tables::clear(occurrence_starts, 4097);
+    tables::clear(occurrences, 16384);
+    tables::clear(trues, 8192);
+    tables::clear(uncovered, 8192);
 }
 
 // The entries from a place up to n become 0.
@@ -256,18 +244,8 @@ pub fn read(
             line: 0,
         });
     }
-    clear_all(
-        names,
-        values,
-        starts,
-        literals,
-        occurrence_starts,
-        occurrences,
-        trues,
-        breaks,
-        uncovered,
-        places,
-    );
+    clear_draft(names, starts, literals, breaks, places);
+    clear_others(values, occurrence_starts, occurrences, trues, uncovered);
     read_cleared(
         text,
         names,
