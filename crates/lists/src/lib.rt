@@ -128,6 +128,18 @@ fn flip_list(
     m
 }
 
+// The counts given, with another number of uncovered clauses.
+fn recounted(n: Counts, number: u32) -> Counts
+    ensures { λ r. ⌜ r ≡ record { terms = n .terms; clauses = n .clauses; literals = n .literals; uncovered = number } ⌝ }
+{
+    Counts {
+        terms: n.terms,
+        clauses: n.clauses,
+        literals: n.literals,
+        uncovered: number,
+    }
+}
+
 // The terms of the list flipped, in order, or a refusal that changes nothing.
 pub fn apply(
     list: &[u16],
@@ -186,10 +198,5 @@ pub fn apply(
         places,
         n.uncovered as usize,
     );
-    Flipped::Applied(Counts {
-        terms: n.terms,
-        clauses: n.clauses,
-        literals: n.literals,
-        uncovered: number as u32,
-    })
+    Flipped::Applied(recounted(n, number as u32))
 }
