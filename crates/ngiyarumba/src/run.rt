@@ -3,7 +3,7 @@ ghost use mathlib.Core.Path.{_≡_};
 ghost use Rattle.written.specs.Limits.{narrow};
 ghost use Rattle.written.specs.Tables.{lent};
 ghost use Rattle.written.specs.Program.{runOf};
-ghost use Rattle.running.specs.Running.{ended};
+ghost use Rattle.solving.specs.Running.{ended};
 
 // What stands in `out` is what the program prints for the input; the answer is its length, 0 where a table or `out` is too short.
 #[no_mangle]

@@ -26,8 +26,8 @@ use Rattle.machine.proofs.Tests.{said-no, said-yes}
 use Rattle.reading.specs.Clearing.{blanked}
 use Rattle.reading.proofs.Cleared.{blanked-is}
 use Rattle.reports.specs.Pages.{page, put, CanPut}
-use Rattle.running.specs.Running.{ended, CanRun, CanRead}
-use Rattle.running.proofs.Ends.{ended-by, refusal-room}
+use Rattle.solving.specs.Running.{ended, CanRun, CanRead}
+use Rattle.solving.proofs.Ends.{ended-by, refusal-room}
 
 module _ (lim : Limits) (input : List ℕ) (t : Tables) (b : List ℕ) (can : CanRun lim t b) where
   -- an input that is too long

@@ -2,7 +2,8 @@
 use native.Mathlib.Omega.{arith}
 use borrow.Author.Needs.{needs}
 use Rattle.written.specs.Limits.{narrow}
-use Rattle.running.proofs.Ends.{refusal-room}
+use Rattle.reading.proofs.Cleared.{both-wiped}
+use Rattle.solving.proofs.Ends.{refusal-room}
 use Rattle.running.proofs.Courses.{long-ends, sheet-fits, sheet-ends, text-within, sheet-reads, text-ends}
 use Rattle.running.proofs.begin.Statement.{statement}
 use Rattle.running.proofs.begin.Tie as tie
@@ -10,9 +11,10 @@ use Rattle.running.proofs.begin.Tie as tie
 returns : tie.Need-returns
 returns c =
     let said = c .before .before in
-    let wiped = said .before .before .before .before .before .before .before .before .before .before .before .before .before .before .before .before .before .before .before .before .before .before in
-    let test = wiped .before .before .before .before .before .before .before .before .before .before .before in
-    long-ends narrow _ _ _ (test .before .before .before .before .before .before .before .before .before .before .before .before .before .pre) (test .if1 .taken) (wiped .clear-all .ensures) (said .refusal .ensures)
+    let rest = said .before .before .before .before .before .before .before .before .before .before .before .before in
+    let drafted = rest .before .before .before .before .before .before .before .before .before .before .before .before .before .before .before .before in
+    let test = drafted .before .before .before .before .before .before in
+    long-ends narrow _ _ _ (test .before .before .before .before .before .before .before .before .before .before .before .before .before .pre) (test .if1 .taken) (both-wiped narrow _ (drafted .clear-draft .ensures) (rest .clear-others .ensures)) (said .refusal .ensures)
 
 refusal-requires-2 : tie.Need-refusal-requires-2
 refusal-requires-2 c κs =
@@ -44,18 +46,18 @@ returns-3 c =
 pub begin-spec : {M : Type 1} → statement M
 begin-spec =
     tie.close
-    (tie.spec (λ c κs. search needs)
-    (λ c κs. refusal-room narrow _ _ (c .before .before .before .before .before .before .before .before .before .before .before .before .before .before .before .before .before .before .before .before .before .before .before .before .before .before .before .before .before .before .before .before .before .before .before .before .before .before .before .before .before .before .before .before .before .pre) _ (omega arith) (omega arith))
-    (λ c. c .before .before .before .before .before .before .before .before .before .before .before .before .before .before .before .before .before .before .before .before .before .before .before .names .given)
-    (λ c. c .before .before .before .before .before .before .before .before .before .before .before .before .before .before .before .before .before .before .before .before .before .values .given)
-    (λ c. c .before .before .before .before .before .before .before .before .before .before .before .before .before .before .before .before .before .before .before .starts .given)
-    (λ c. c .before .before .before .before .before .before .before .before .before .before .before .before .before .before .before .before .before .literals .given)
-    (λ c. c .before .before .before .before .before .before .before .before .before .before .before .before .before .before .before .occurrence-starts .given)
-    (λ c. c .before .before .before .before .before .before .before .before .before .before .before .before .before .occurrences .given)
-    (λ c. c .before .before .before .before .before .before .before .before .before .before .before .trues .given)
-    (λ c. c .before .before .before .before .before .before .before .before .before .breaks .given)
-    (λ c. c .before .before .before .before .before .before .before .uncovered .given)
-    (λ c. c .before .before .before .before .before .places .given)
+    (tie.spec (λ c κs. search needs) (λ c κs. search needs)
+    (λ c κs. refusal-room narrow _ _ (c .before .before .before .before .before .before .before .before .before .before .before .before .before .before .before .before .before .before .before .before .before .before .before .before .before .before .before .before .before .before .before .before .before .before .before .before .before .before .before .before .before .before .before .before .before .before .pre) _ (omega arith) (omega arith))
+    (λ c. c .before .before .before .before .before .before .before .before .before .before .before .before .before .before .before .before .before .before .before .before .before .before .before .before .before .before .before .before .before .names .given)
+    (λ c. c .before .before .before .before .before .before .before .before .before .before .before .before .before .values .given)
+    (λ c. c .before .before .before .before .before .before .before .before .before .before .before .before .before .before .before .before .before .before .before .before .before .before .before .before .before .before .before .starts .given)
+    (λ c. c .before .before .before .before .before .before .before .before .before .before .before .before .before .before .before .before .before .before .before .before .before .before .before .before .before .literals .given)
+    (λ c. c .before .before .before .before .before .before .before .before .before .before .before .occurrence-starts .given)
+    (λ c. c .before .before .before .before .before .before .before .before .before .occurrences .given)
+    (λ c. c .before .before .before .before .before .before .before .trues .given)
+    (λ c. c .before .before .before .before .before .before .before .before .before .before .before .before .before .before .before .before .before .before .before .before .before .before .before .breaks .given)
+    (λ c. c .before .before .before .before .before .uncovered .given)
+    (λ c. c .before .before .before .before .before .before .before .before .before .before .before .before .before .before .before .before .before .before .before .before .before .places .given)
     (λ c. c .before .out .given)
     returns (λ c κs. search needs) (λ c. search needs) refusal-requires-2 (λ c. search needs) (λ c. search needs) sub-read-on sub-read-on
     (λ c. search needs) read-on-requires

@@ -32,8 +32,8 @@ use Rattle.laws.proofs.Valids.{end-valid}
 use Rattle.laws.proofs.ReadCalls.{reading-accepted, reading-refused}
 use Rattle.laws.specs.ReadCalls.{LeftAlone, Emptied}
 use Rattle.reports.specs.Pages.{page, put, CanPut}
-use Rattle.running.specs.Running.{ended, CanRead, CanWalk}
-use Rattle.running.proofs.Ends.{ended-by, refusal-room}
+use Rattle.solving.specs.Running.{ended, CanRead, CanWalk}
+use Rattle.solving.proofs.Ends.{ended-by, refusal-room}
 
 abbrev lineIn : Reading → ℕ
 lineIn (accepted f) = 0

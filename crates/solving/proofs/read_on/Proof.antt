@@ -1,11 +1,11 @@
--- `running::read_on` meets its contract: a refusal is printed; an accepted text is walked over. Assumes nothing.
+-- `solving::read_on` meets its contract: a refusal is printed; an accepted text is walked over. Assumes nothing.
 use mathlib.Core.Path.{_∙_}
 use native.Mathlib.Omega.{arith}
 use borrow.Author.Needs.{needs}
 use Rattle.written.specs.Limits.{narrow}
-use Rattle.running.proofs.Readings.{refused-fits, refused-ends, accepted-walks, accepted-ends}
-use Rattle.running.proofs.read_on.Statement.{statement}
-use Rattle.running.proofs.read_on.Tie as tie
+use Rattle.solving.proofs.Readings.{refused-fits, refused-ends, accepted-walks, accepted-ends}
+use Rattle.solving.proofs.read_on.Statement.{statement}
+use Rattle.solving.proofs.read_on.Tie as tie
 
 refusal-requires : tie.Need-refusal-requires
 refusal-requires c κs =

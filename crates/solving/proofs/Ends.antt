@@ -11,7 +11,7 @@ use Rattle.written.specs.Printed.{refusal}
 use Rattle.written.specs.Program.{Course, said, reportSize, tablesAfter, ran}
 use Rattle.laws.proofs.Reports.{refusal-fits}
 use Rattle.reports.specs.Pages.{page, put, CanPut}
-use Rattle.running.specs.Running.{ended, CanRun}
+use Rattle.solving.specs.Running.{ended, CanRun}
 
 -- bytes put first into a buffer
 pub front : (bs b : List ℕ) → put bs (page 0 b) ≡ page (length bs) (over bs b)

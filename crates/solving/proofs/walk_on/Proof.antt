@@ -1,9 +1,9 @@
--- `running::walk_on` meets its contract: the walks are made, and their report is put into the buffer. Assumes nothing.
+-- `solving::walk_on` meets its contract: the walks are made, and their report is put into the buffer. Assumes nothing.
 use native.Mathlib.Omega.{arith}
 use Rattle.written.specs.Limits.{narrow}
-use Rattle.running.proofs.Walking.{walk-reports, walk-ends}
-use Rattle.running.proofs.walk_on.Statement.{statement}
-use Rattle.running.proofs.walk_on.Tie as tie
+use Rattle.solving.proofs.Walking.{walk-reports, walk-ends}
+use Rattle.solving.proofs.walk_on.Statement.{statement}
+use Rattle.solving.proofs.walk_on.Tie as tie
 
 report-requires : tie.Need-report-requires
 report-requires c κs =

@@ -21,9 +21,9 @@ use Rattle.laws.proofs.Reports.{walked-length}
 use Rattle.walks.specs.Tests.{walkMade}
 use Rattle.reports.specs.Pages.{page, put, CanPut}
 use Rattle.reports.specs.Reporting.{reportIn, namesIn, CanReport}
-use Rattle.running.specs.Running.{ended, CanWalk}
+use Rattle.solving.specs.Running.{ended, CanWalk}
 use Rattle.reports.proofs.Reported.{reported, report-named}
-use Rattle.running.proofs.Ends.{ended-by, fits}
+use Rattle.solving.proofs.Ends.{ended-by, fits}
 
 -- an answer a and tables u that the walks have given
 module _ (lim : Limits) (o : Order) (n : Counts) (t : Tables) (b : List ℕ) (can : CanWalk lim o n t b) {a : Walked} {u : Tables}

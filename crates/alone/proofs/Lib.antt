@@ -1,0 +1,2 @@
+-- What the proofs of these functions cite; these stand beside the functions' names.
+pub mod Alone
