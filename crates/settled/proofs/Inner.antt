@@ -3,7 +3,10 @@ use mathlib.Core.Path.{_≡_, refl, ap}
 use Rattle.machine.specs.Uncovered.{Uncovered}
 use Rattle.machine.specs.Tallies.{Tallies}
 use Rattle.machine.specs.Moving.{Moving}
+use Rattle.drafts.specs.Drafting.{Desk}
+use Rattle.reading.specs.Clearing.{Others}
 use Rattle.reports.specs.Pages.{Page}
+use Rattle.written.specs.Program.{Ran}
 use Rattle.settled.specs.Outcomes.{Public, Inner}
 use Rattle.settled.proofs.Facts.{meet, same, both, all-three, ten, five}
 use Rattle.tables.proofs.true_count as true-count
@@ -26,10 +29,12 @@ use Rattle.flips.proofs.flip_term as flip-term
 use Rattle.flips.proofs.flip_all as flip-all
 use Rattle.choosing.proofs.chosen_from as chosen-from
 use Rattle.walks.proofs.walk_tested as walk-tested
-use Rattle.reading.proofs.clear_all as clear-all
+use Rattle.reading.proofs.clear_draft as clear-draft
+use Rattle.reading.proofs.clear_others as clear-others
 use Rattle.reports.proofs.refusal as refusal
 use Rattle.reports.proofs.report as report
-use Rattle.running.proofs.run_alone as run-alone
+use Rattle.solving.proofs.read_on as read-on
+use Rattle.alone.proofs.run_alone as run-alone
 
 pub true-count-settled : Public true-count.ended (λ M. true-count.clauses)
 true-count-settled M 𝓤 H A mem run κs a g = record { asks-nothing = refl; one-outcome = λ x y. both 𝓤 (λ p q. same (meet p q) refl) }
@@ -91,8 +96,11 @@ chosen-from-settled M 𝓤 H A mem run κs a g = record { one-outcome = λ x y. 
 pub walk-tested-settled : Inner walk-tested.ended (λ M. walk-tested.clauses)
 walk-tested-settled M 𝓤 H A mem run κs a g = record { one-outcome = λ x y. all-three 𝓤 (λ r p q. same (meet (p .0) (q .0)) (ap (λ t. (tt, (tt, five t tt))) (meet (p .1) (q .1)))) }
 
-pub clear-all-settled : Public clear-all.ended (λ M. clear-all.clauses)
-clear-all-settled M 𝓤 H A mem run κs a g = record { asks-nothing = refl; one-outcome = λ x y. both 𝓤 (λ p q. same refl (ap (λ t. ten t tt) (meet p q))) }
+pub clear-draft-settled : Public clear-draft.ended (λ M. clear-draft.clauses)
+clear-draft-settled M 𝓤 H A mem run κs a g = record { asks-nothing = refl; one-outcome = λ x y. both 𝓤 (λ p q. same refl (ap (λ (w : Desk). (w .names, (w .starts, (w .literals, (w .stamps, (w .slots, tt)))))) (meet p q))) }
+
+pub clear-others-settled : Public clear-others.ended (λ M. clear-others.clauses)
+clear-others-settled M 𝓤 H A mem run κs a g = record { asks-nothing = refl; one-outcome = λ x y. both 𝓤 (λ p q. same refl (ap (λ (w : Others). (w .values, (w .occurrenceStarts, (w .occurrences, (w .trues, (w .uncovered, tt)))))) (meet p q))) }
 
 pub refusal-settled : Inner refusal.ended (λ M. refusal.clauses)
 refusal-settled M 𝓤 H A mem run κs a g = record { one-outcome = λ x y. all-three 𝓤 (λ r p q. let e = meet p q in same (ap (λ s. s .at) e) (ap (λ (s : Page). (s .buffer, (tt, tt))) e)) }
@@ -100,5 +108,8 @@ refusal-settled M 𝓤 H A mem run κs a g = record { one-outcome = λ x y. all-
 pub report-settled : Inner report.ended (λ M. report.clauses)
 report-settled M 𝓤 H A mem run κs a g = record { one-outcome = λ x y. all-three 𝓤 (λ r p q. let e = meet p q in same (ap (λ s. s .at) e) (ap (λ (s : Page). (s .buffer, (tt, (tt, (tt, tt))))) e)) }
 
+pub read-on-settled : Inner read-on.ended (λ M. read-on.clauses)
+read-on-settled M 𝓤 H A mem run κs a g = record { one-outcome = λ x y. all-three 𝓤 (λ r p q. let e = meet p q in same (ap (λ w. w .length) e) (ap (λ (w : Ran). (tt, (tt, ten (w .tables) (w .buffer, tt)))) e)) }
+
 pub run-alone-settled : Inner run-alone.ended (λ M. run-alone.clauses)
-run-alone-settled M 𝓤 H A mem run κs a g = record { one-outcome = λ x y. all-three 𝓤 (λ r p q. let e = meet p q in same (ap (λ s. s .at) e) (ap (λ (s : Page). (tt, (s .buffer, tt))) e)) }
+run-alone-settled M 𝓤 H A mem run κs a g = record { one-outcome = λ x y. all-three 𝓤 (λ r p q. let e = meet (p .0) (q .0) in same (ap (λ s. s .at) e) (ap (λ (s : Page). (tt, (s .buffer, tt))) e)) }

@@ -1,5 +1,5 @@
 -- `reports::put_number` meets its contract: the digits of the tenth, then the last; the measure is the number. Assumes nothing.
-use Prim.Native.Nat.{ℕ}
+use Prim.Native.Nat.{ℕ, _<_}
 use mathlib.Core.List.{_∷_, []}
 use native.Mathlib.Omega.{arith}
 use borrow.Author.Needs.{needs}
