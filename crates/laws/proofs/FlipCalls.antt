@@ -12,7 +12,7 @@ use lib.Dec.{ltb}
 use borrow.Author.Tests.{le-ltb, lt-ltb}
 use Rattle.written.specs.declared.Counts.{Counts}
 use Rattle.written.specs.declared.Reason.{Reason}
-use Rattle.written.specs.declared.Reason.the-variants.{ShortTable, Disagreement, UnknownTerm, LongList}
+use Rattle.written.specs.declared.Reason.the-variants.{ShortTable}
 use Rattle.written.specs.declared.Refusal.{Refusal}
 use Rattle.written.specs.declared.Flipped.{Flipped}
 use Rattle.written.specs.declared.Flipped.the-variants as F

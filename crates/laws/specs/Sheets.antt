@@ -1,11 +1,10 @@
 -- An order sheet, in the document's words: `sheetOf input` is what its answer is. Assumes nothing.
-use Prim.Native.Nat.{ℕ, zero, suc, _-_, _<_, _≤_}
+use Prim.Native.Nat.{ℕ, zero, suc, _-_, _<_}
 use mathlib.Core.Path.{_≡_}
 use mathlib.Core.Bool.{true, false}
 use mathlib.Core.List.{List, [], _∷_}
 use lib.ListN.{length, getD, drop}
 use Rattle.scan.specs.Text.{bytes}
-use Rattle.written.specs.declared.Order.{Order}
 use Rattle.written.specs.declared.Sheet.{Sheet}
 use Rattle.written.specs.declared.Ordered.{Ordered}
 use Rattle.written.specs.declared.Ordered.the-variants.{Accepted, Refused}

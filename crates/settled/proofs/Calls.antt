@@ -1,5 +1,5 @@
 -- The statements of the calls on lent tables, of the order sheet and of the exports. Assumes nothing.
-use mathlib.Core.Path.{_≡_, refl, ap}
+use mathlib.Core.Path.{refl, ap}
 use Rattle.settled.specs.Outcomes.{Public}
 use Rattle.settled.proofs.Facts.{meet, same, both, ten, five}
 use Rattle.written.specs.Program.{Ran}

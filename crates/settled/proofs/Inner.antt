@@ -1,5 +1,5 @@
 -- The statements of what one crate lends to another. Assumes nothing.
-use mathlib.Core.Path.{_≡_, refl, ap}
+use mathlib.Core.Path.{refl, ap}
 use Rattle.machine.specs.Uncovered.{Uncovered}
 use Rattle.machine.specs.Tallies.{Tallies}
 use Rattle.machine.specs.Moving.{Moving}

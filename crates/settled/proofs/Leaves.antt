@@ -1,5 +1,5 @@
 -- The statements of `draw`, `words`, `scan`, `reader` and `reasons`. Assumes nothing.
-use mathlib.Core.Path.{_≡_, refl, ap}
+use mathlib.Core.Path.{refl, ap}
 use Rattle.settled.specs.Outcomes.{Public}
 use Rattle.settled.proofs.Facts.{meet, same, both}
 use Rattle.draw.proofs.stepped as stepped

@@ -6,12 +6,11 @@ use mathlib.Core.Path.{refl}
 use mathlib.Core.List.{List, [], _∷_, _++_}
 use lib.ListN.{length, drop}
 use Rattle.scan.specs.Text.{bytes}
-use Rattle.written.specs.declared.Sheet.{Sheet}
 use Rattle.written.specs.Limits.{Limits}
 use Rattle.written.specs.Tables.{Tables}
 use Rattle.written.specs.Sheet.{SheetValues, sheetOf, sheetValues}
 use Rattle.written.specs.Program.{Ran, runOf}
-use Rattle.written.specs.Calls.{small, sevens, given, zero, holding, changed}
+use Rattle.written.specs.Calls.{sevens, given, zero, holding, changed}
 use Rattle.written.specs.Computing.{computing, Example, _tells_, Tells}
 
 -- the small limits, with room for a sheet in the text
