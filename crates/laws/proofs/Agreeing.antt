@@ -93,7 +93,7 @@ module _ (lim : Limits) (n : Counts) (t : Tables) (ok : agree lim n t ≡ true) 
   clause-some k l =
       let rise : (k : ℕ) → k < n .clauses → getD (t .starts) k 0 ≤ getD (t .starts) (k + 1) 0 = λ k l. omega (arith, points .rise k l) in
       let end : getD (t .starts) (n .clauses) 0 ≤ length (t .literals) = omega (arith, room Literals, points .last) in
-      let up = up-to-last (t .starts) (t .literals) (n .clauses) rise (omega (arith, room Starts)) end (k + 1) (n .clauses - (k + 1)) (omega arith) in
+      let up = up-to-last (t .starts) (n .clauses) rise (k + 1) (n .clauses - (k + 1)) (omega arith) in
       let size = part-length (t .starts) (t .literals) k (omega arith) in
       rw (getD-listOf (n .clauses) k (partOf (t .starts) (t .literals)) [] l) (omega (arith, points .rise k l))
 

@@ -1,6 +1,6 @@
 -- Cases and tests: what every other law leans on. Assumes nothing.
 use Prim.Native.Nat.{ℕ, _≤_, _<_}
-use mathlib.Core.Path.{_≡_, refl, ap₂}
+use mathlib.Core.Path.{_≡_, refl, ap₂, sym}
 use mathlib.Core.Bool.{Bool, true, false, cond, _&&_, _||_, false≢true, true≢false}
 use mathlib.Core.List.{List, [], _∷_}
 use native.Mathlib.Omega.{arith}
@@ -45,6 +45,12 @@ neither-first false b h = refl
 pub neither-second : (a b : Bool) → (a || b) ≡ false → b ≡ false
 neither-second true b h = absurd (true≢false h)
 neither-second false b h = h
+
+-- two tests that hold together are the same
+pub same-tests : (a b : Bool) → (a ≡ true → b ≡ true) → (b ≡ true → a ≡ true) → a ≡ b
+same-tests true b f g = sym (f refl)
+same-tests false true f g = g refl
+same-tests false false f g = refl
 
 -- the two lists that `same` takes for the same are the same
 pub same-eq : (xs ys : List ℕ) → same xs ys ≡ true → xs ≡ ys

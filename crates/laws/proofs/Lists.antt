@@ -1,11 +1,11 @@
 -- Lists made of numbers, padded, written over others, joined: their lengths and entries. Assumes nothing.
 use Prim.Native.Nat.{ℕ, zero, suc, _+_, _-_, _≤_, _<_}
-use mathlib.Core.Path.{_≡_, refl, ap, ap₂, _∙_}
+use mathlib.Core.Path.{_≡_, refl, ap, ap₂, sym, _∙_}
 use mathlib.Core.Bool.{Bool, cond}
 use mathlib.Core.List.{List, [], _∷_, _++_, map}
 use native.Mathlib.Omega.{arith}
-use lib.Seq.{ext-getD, getD-set-other}
-use lib.ListN.{length, getD, set, drop, length-append, length-replicate, length-drop}
+use lib.Seq.{ext-getD, getD-set-other, take-nil}
+use lib.ListN.{length, getD, set, take, drop, length-append, length-replicate, length-drop}
 use Rattle.written.specs.Lists.{those, whereFrom, listFrom, listOf, zeros, padded, steps}
 use Rattle.written.specs.Tables.{over}
 use Rattle.laws.proofs.Basics.{by-cases}
@@ -43,6 +43,13 @@ over-length new old h = omega (arith, length-append new (drop (length new) old),
 pub kept-set : (n : ℕ) (xs : List ℕ) (k y : ℕ) (zs : List ℕ) → k < n → ((j : ℕ) → n ≤ j → getD xs j 0 ≡ getD zs j 0) → (j : ℕ) → n ≤ j
     → getD (set xs k y) j 0 ≡ getD zs j 0
 kept-set n xs k y zs l h j m = getD-set-other xs k j y 0 (λ q. omega arith) ∙ h j m
+
+-- of the first b entries those from a on, either way round
+pub drop-take : (a b : ℕ) (xs : List ℕ) → drop a (take b xs) ≡ take (b - a) (drop a xs)
+drop-take zero b xs = ap (λ (k : ℕ). take k xs) (let e : b ≡ b - 0 = omega arith in e)
+drop-take (suc a) zero xs = sym (ap (λ (k : ℕ). take k (drop (suc a) xs)) (let e : 0 - suc a ≡ 0 = omega arith in e))
+drop-take (suc a) (suc b) [] = sym (take-nil (suc b - suc a))
+drop-take (suc a) (suc b) (x ∷ xs) = drop-take a b xs ∙ ap (λ (k : ℕ). take k (drop a xs)) (let e : b - a ≡ suc b - suc a = omega arith in e)
 
 -- no more entries pass a test than there are
 pub those-short : {A : Type 0} (p : A → Bool) (xs : List A) → length (those p xs) ≤ length xs

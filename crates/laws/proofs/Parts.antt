@@ -77,17 +77,18 @@ pub part-length : (ss xs : List ℕ) (k : ℕ) → getD ss (k + 1) 0 ≤ length 
 unfolding partOf
 part-length ss xs k h = length-take-le (getD ss (k + 1) 0 - getD ss k 0) (drop (getD ss k 0) xs) (omega (arith, length-drop (getD ss k 0) xs))
 
--- m starts that do not fall, the last within the entries
-module _ (ss xs : List ℕ) (m : ℕ) (rise : (k : ℕ) → k < m → getD ss k 0 ≤ getD ss (k + 1) 0) (long : m < length ss) (room : getD ss m 0 ≤ length xs) where
-  pub up-to-last : (i n : ℕ) → i + n ≡ m → getD ss i 0 ≤ getD ss m 0
-  up-to-last i zero e = let z : i ≡ m = omega arith in rw z (omega arith)
-  up-to-last i (suc n) e = omega (arith, rise i (omega arith), up-to-last (i + 1) n (omega arith))
+-- m starts that do not fall
+pub up-to-last : (ss : List ℕ) (m : ℕ) → ((k : ℕ) → k < m → getD ss k 0 ≤ getD ss (k + 1) 0) → (i n : ℕ) → i + n ≡ m → getD ss i 0 ≤ getD ss m 0
+up-to-last ss m rise i zero e = let z : i ≡ m = omega arith in rw z (omega arith)
+up-to-last ss m rise i (suc n) e = omega (arith, rise i (omega arith), up-to-last ss m rise (i + 1) n (omega arith))
 
+-- and the last within the entries
+module _ (ss xs : List ℕ) (m : ℕ) (rise : (k : ℕ) → k < m → getD ss k 0 ≤ getD ss (k + 1) 0) (long : m < length ss) (room : getD ss m 0 ≤ length xs) where
   join-starts : (i n : ℕ) → i + n ≡ m → startsFrom (getD ss i 0) (listFrom i n (partOf ss xs)) ≡ take (suc n) (drop i ss)
   unfolding startsFrom
   join-starts i zero e = rw (drop-cons ss i 0 (omega arith)) refl
   join-starts i (suc n) e =
-      let u = up-to-last (i + 1) n (omega arith) in
+      let u = up-to-last ss m rise (i + 1) n (omega arith) in
       let r = rise i (omega arith) in
       let p = part-length ss xs i (omega arith) in
       let q : getD ss (i + 1) 0 ≡ getD ss (suc i) 0 = ap (λ j. getD ss j 0) (add-one i) in
@@ -101,7 +102,7 @@ module _ (ss xs : List ℕ) (m : ℕ) (rise : (k : ℕ) → k < m → getD ss k 
       let a = getD ss i 0 in
       let b = getD ss (i + 1) 0 in
       let d = getD ss m 0 in
-      let u = up-to-last (i + 1) n (omega arith) in
+      let u = up-to-last ss m rise (i + 1) n (omega arith) in
       let r = rise i (omega arith) in
       let two : d - a ≡ (b - a) + (d - b) = omega arith in
       let ba : a + (b - a) ≡ b = omega arith in

@@ -11,13 +11,13 @@ use lib.Dec.{leb, ltb}
 use borrow.Author.Tests.{lt-ltb, le-ltb, le-leb, lt-leb, ltb-true, eq-eqb, ne-eqb}
 use Rattle.written.specs.Lists.{all, below, has, whereFrom, listFrom, steps, differ, same}
 use Rattle.written.specs.Clauses.{termOf}
-use Rattle.laws.proofs.Basics.{both, both-first, both-second, by-eq, by-lt}
+use Rattle.laws.proofs.Basics.{both, both-first, both-second, by-eq, by-lt, same-tests}
 use Rattle.laws.proofs.All.{all-below, below-all}
 use Rattle.laws.proofs.Membership.{differ-first, differ-rest, differ-map}
 use Rattle.machine.specs.Tallies.{raised}
 use Rattle.machine.specs.Judging.{passes, clauseRight}
 use Rattle.machine.specs.Matching.{standsAt, isNext, passOne, clauseNext, passClause, runsPassed}
-use Rattle.machine.proofs.Tests.{same-tests, all-same}
+use Rattle.machine.proofs.Tests.{all-same}
 
 -- a run from place k on is c and more exactly if c stands there, and the more from the next place on
 left-next : (run : List ℕ) (k c : ℕ) (more : List ℕ) → same (drop k run) (c ∷ more) ≡ (standsAt run k c && same (drop (suc k) run) more)

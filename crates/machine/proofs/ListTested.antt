@@ -10,7 +10,7 @@ use lib.Dec.{eqb, ltb}
 use borrow.Author.Tests.{eqb-true, eq-eqb, ltb-true, ltb-false, lt-ltb}
 use Rattle.written.specs.Lists.{all, below, has, placeOf, times}
 use Rattle.written.specs.Clauses.{trueCount, isUncovered, uncoveredIn}
-use Rattle.laws.proofs.Basics.{by-cases, both, both-first, both-second, same-eq}
+use Rattle.laws.proofs.Basics.{by-cases, both, both-first, both-second, same-eq, same-tests}
 use Rattle.laws.proofs.Sums.{total-map}
 use Rattle.laws.proofs.All.{all-below, below-all, all-has, has-all}
 use Rattle.laws.proofs.Membership.{has-getD, placeOf-lt, placeOf-getD}
@@ -19,7 +19,6 @@ use Rattle.laws.proofs.Counted.{uncovered-once, uncovered-has, uncovered-below}
 use Rattle.machine.specs.Tallies.{hitOf}
 use Rattle.machine.specs.Judging.{truesRight, listRight, coveredRight}
 use Rattle.machine.specs.Tested.{countOf, placeTested}
-use Rattle.machine.proofs.Tests.{same-tests}
 use Rattle.machine.proofs.Tested.{trues-at}
 
 -- as many true counts are 0 as clauses stand uncovered

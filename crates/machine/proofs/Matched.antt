@@ -10,14 +10,14 @@ use borrow.Author.Tests.{ltb-true}
 use Rattle.written.specs.Lists.{all, same, zeros}
 use Rattle.written.specs.Clauses.{occurrencesOf}
 use Rattle.written.specs.Agreement.{partOf}
-use Rattle.laws.proofs.Basics.{by-cases, both-first, same-eq}
+use Rattle.laws.proofs.Basics.{by-cases, both-first, same-eq, same-tests}
 use Rattle.laws.proofs.All.{all-getD, all-below, below-all, same-refl}
 use Rattle.laws.proofs.Lists.{listFrom-length, getD-listOf}
 use Rattle.machine.specs.Moving.{CanPart}
 use Rattle.machine.specs.Judging.{clausesIn, clauseRight, literalsRight, turnedRight}
 use Rattle.machine.specs.Cuts.{Cuts}
 use Rattle.machine.specs.Matching.{cutsRight, clausesNext, passClauses, runsPassed, CanPassAll, CanMatch}
-use Rattle.machine.proofs.Tests.{same-tests, not-both}
+use Rattle.machine.proofs.Tests.{not-both}
 use Rattle.machine.proofs.Cuts.{can-cut, short-part}
 use Rattle.machine.proofs.Occurrences.{turned-cuts, turned-part, parts-turned}
 use Rattle.machine.proofs.Matching.{cuts-yes, cuts-back}

@@ -1,12 +1,12 @@
 -- The rest of a table past the entries in use, and the spare bits of the value words. Assumes nothing.
-use Prim.Native.Nat.{ℕ, zero, suc, _+_, _-_, _*_, _/_, _%_, _^_, _≤_, _<_, zero-le}
+use Prim.Native.Nat.{ℕ, _+_, _-_, _*_, _/_, _%_, _^_, _≤_, _<_, zero-le}
 use mathlib.Core.Path.{_≡_, refl, ap, sym, _∙_}
 use mathlib.Core.Bool.{Bool, true, _&&_}
-use mathlib.Core.List.{List, [], _∷_}
+use mathlib.Core.List.{List}
 use native.Mathlib.Omega.{arith}
 use native.Mathlib.Nat.{div-lt-iff-lt-mul, le-antisymm, mod-eq-of-lt, one-mul}
 use lib.ListN.{length, getD, take, drop, length-take, length-drop, List·getD-eq-default}
-use lib.Seq.{getD-take, length-take-le, take-nil}
+use lib.Seq.{getD-take, length-take-le}
 use lib.Pow.{pow-pos, pow-mono}
 use lib.Bits.{bitOr, or-add-and, or-zero-l, and-le-l, and-le-r}
 use lib.Dec.{eqb, ltb}
@@ -15,19 +15,12 @@ use Rattle.words.specs.Words.{bitAt, bitOf, wordCount}
 use Rattle.words.proofs.Laws.{bit-cleared, bit-past}
 use Rattle.written.specs.Lists.{all, below, same, listOf}
 use Rattle.written.specs.Tables.{wordOf, wordsOf}
-use Rattle.laws.proofs.Basics.{by-lt, both, both-first, both-second, same-eq}
+use Rattle.laws.proofs.Basics.{by-lt, both, both-first, both-second, same-eq, same-tests}
 use Rattle.laws.proofs.All.{same-refl, all-take, all-drop}
-use Rattle.laws.proofs.Lists.{listFrom-length, getD-listOf, listOf-is}
+use Rattle.laws.proofs.Lists.{listFrom-length, getD-listOf, listOf-is, drop-take}
 use Rattle.laws.proofs.Values.{word-at, word-lt, words-back, values-bits}
 use Rattle.machine.specs.Judging.{restRight, spareRight, valuesIn}
-use Rattle.machine.proofs.Tests.{same-tests, all-places, all-next}
-
--- of the first b entries those from a on, either way round
-pub drop-take : (a b : ℕ) (xs : List ℕ) → drop a (take b xs) ≡ take (b - a) (drop a xs)
-drop-take zero b xs = ap (λ (k : ℕ). take k xs) (let e : b ≡ b - 0 = omega arith in e)
-drop-take (suc a) zero xs = sym (ap (λ (k : ℕ). take k (drop (suc a) xs)) (let e : 0 - suc a ≡ 0 = omega arith in e))
-drop-take (suc a) (suc b) [] = sym (take-nil (suc b - suc a))
-drop-take (suc a) (suc b) (x ∷ xs) = drop-take a b xs ∙ ap (λ (k : ℕ). take k (drop a xs)) (let e : b - a ≡ suc b - suc a = omega arith in e)
+use Rattle.machine.proofs.Tests.{all-places, all-next}
 
 -- entries joined by `or` are 0 exactly if each is
 or-none : (a b : ℕ) → eqb (bitOr a b) 0 ≡ (eqb a 0 && eqb b 0)

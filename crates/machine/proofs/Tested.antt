@@ -12,7 +12,7 @@ use Rattle.words.specs.Words.{bitAt}
 use Rattle.written.specs.Lists.{total, all, below, same}
 use Rattle.written.specs.Clauses.{termOf, valueOf, trueCount}
 use Rattle.written.specs.Agreement.{partOf}
-use Rattle.laws.proofs.Basics.{both-first, same-eq}
+use Rattle.laws.proofs.Basics.{both-first, same-eq, same-tests}
 use Rattle.laws.proofs.Lists.{listFrom-length, getD-listOf}
 use Rattle.laws.proofs.Sums.{total-by}
 use Rattle.laws.proofs.All.{all-below, below-all, all-getD, same-refl}
@@ -20,7 +20,6 @@ use Rattle.machine.specs.Literals.{valueIn}
 use Rattle.machine.specs.Moving.{view, countAt}
 use Rattle.machine.specs.Judging.{clausesIn, valuesIn, clauseRight, literalsRight, truesRight}
 use Rattle.machine.specs.Tested.{trueTested, CanTrues}
-use Rattle.machine.proofs.Tests.{same-tests}
 
 -- the first n entries are those of ys: so at each place, and so if at each place
 pub same-at : (n : ℕ) (xs ys : List ℕ) → same (take n xs) ys ≡ true → (k : ℕ) → k < n → getD xs k 0 ≡ getD ys k 0

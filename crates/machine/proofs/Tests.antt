@@ -7,14 +7,8 @@ use native.Mathlib.Nat.{le-antisymm}
 use native.Mathlib.Omega.{arith}
 use lib.ListN.{length, getD}
 use Rattle.written.specs.Lists.{all, below}
-use Rattle.laws.proofs.Basics.{by-cases, by-eq, both, both-first, both-second}
+use Rattle.laws.proofs.Basics.{by-cases, by-eq, both, both-first, both-second, same-tests}
 use Rattle.laws.proofs.All.{all-below, below-all, all-getD, all-by}
-
--- two tests that hold together are the same
-pub same-tests : (a b : Bool) → (a ≡ true → b ≡ true) → (b ≡ true → a ≡ true) → a ≡ b
-same-tests true b f g = sym (f refl)
-same-tests false true f g = g refl
-same-tests false false f g = refl
 
 -- a test that holds does not fail
 pub not-both : {A : Type 0} {b : Bool} → b ≡ true → b ≡ false → A

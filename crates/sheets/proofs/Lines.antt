@@ -14,7 +14,7 @@ use Rattle.written.specs.Lists.{same}
 use Rattle.written.specs.Orders.{Range, within}
 use Rattle.written.specs.Sheet.{isNumber, valueOfDigits, hasForm, numberAfter, lineLength}
 use Rattle.laws.proofs.Basics.{by-cases, both-first, both-second}
-use Rattle.machine.proofs.Rest.{drop-take}
+use Rattle.laws.proofs.Lists.{drop-take}
 use Rattle.machine.proofs.Tests.{not-both}
 use Rattle.sheets.specs.declared.Verdict.the-variants.{Taken, Faulty}
 use Rattle.sheets.specs.Lines.{range, lineOf}
