@@ -7,3 +7,4 @@ pub mod FlipCalls
 pub mod WalkCalls
 pub mod Sheets
 pub mod RunCalls
+pub mod Excess
