@@ -2,12 +2,12 @@
 use Prim.Native.Nat.{ℕ, _%_}
 use mathlib.Core.Path.{_≡_, refl, ap, ap₂, sym, _∙_}
 use mathlib.Core.Bool.{true}
-use mathlib.Core.List.{List, map}
+use mathlib.Core.List.{List}
 use lib.ListN.{length}
 use lib.Dec.{ltb}
 use Rattle.written.specs.Lists.{all, times}
 use Rattle.written.specs.Limits.{Limits}
-use Rattle.written.specs.Clauses.{File, State, trueCount, breakCount, uncoveredIn, afresh}
+use Rattle.written.specs.Clauses.{File, State, uncoveredIn, afresh}
 use Rattle.written.specs.Flips.{flipped}
 use Rattle.laws.specs.Valid.{Valid, Listed}
 use Rattle.laws.specs.Demands.{SameButOrder, AfterFlips}
@@ -22,8 +22,6 @@ same-but-order a b f v la lb =
     record {
       file = f;
       values = v;
-      trues = ap₂ (λ (vs : List ℕ) (g : File). map (trueCount vs) (g .clauses)) v f;
-      breaks = λ t. ap₂ (λ (vs : List ℕ) (g : File). breakCount vs (g .clauses) t) v f;
       uncovered = same;
       uncovered-count = reordered-length (a .uncovered) (b .uncovered) same;
     }

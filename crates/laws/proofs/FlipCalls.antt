@@ -16,20 +16,20 @@ use Rattle.written.specs.declared.Reason.the-variants.{ShortTable}
 use Rattle.written.specs.declared.Refusal.{Refusal}
 use Rattle.written.specs.declared.Flipped.{Flipped}
 use Rattle.written.specs.declared.Flipped.the-variants as F
-use Rattle.written.specs.Lists.{all, total, has, times}
+use Rattle.written.specs.Lists.{all, total, listOf, has, times}
 use Rattle.written.specs.Limits.{Limits}
 use Rattle.written.specs.Reasons.{numberOf}
-use Rattle.written.specs.Clauses.{File, State, afresh}
+use Rattle.written.specs.Clauses.{File, State, breakCount, afresh}
 use Rattle.written.specs.Reading.{accepted, readText}
 use Rattle.written.specs.Flips.{flipped}
 use Rattle.written.specs.Tables.{Tables, each, sizes, areFull, inUse, tablesOf, placeIn, countsOf, holding}
 use Rattle.written.specs.Agreement.{stateIn, agree}
 use Rattle.written.specs.Outcomes.{Leaves, flipsRefused, flipsLeave, flipsOf, flipValues}
 use Rattle.laws.specs.Valid.{Bits, Valid}
-use Rattle.laws.specs.Calls.{Stands}
+use Rattle.laws.specs.Calls.{Stands, SameFile}
 use Rattle.laws.specs.FlipCalls.{Fails, reasonGiven, Given, Refused}
 use Rattle.laws.specs.FlipCalls.Fails.{short, long, disagree, unknown}
-use Rattle.laws.specs.Demands.{SameButOrder, AfterFlips, Acceptable, SameButList, Accepted}
+use Rattle.laws.specs.Demands.{SameButOrder, AfterFlips, Acceptable, SameButList, WorkedOut, Accepted}
 use Rattle.laws.proofs.Basics.{by-cases, by-lt}
 use Rattle.laws.proofs.Lists.{getD-listOf}
 use Rattle.laws.proofs.Times.{has-is, reordered-length, reordered-all}
@@ -54,6 +54,17 @@ module _ (lim : Limits) (s : State) (t : Tables) (v : Valid lim s) where
   list-back : take (length (s .uncovered)) (holding lim s t .uncovered) ≡ s .uncovered
   unfolding each sizes countsOf inUse
   list-back = ap (λ (u : Tables). u .uncovered) (holding-used lim s t v)
+
+  -- the counts and the list are those worked out afresh
+  worked-out : (n : Counts) → SameFile n (countsOf s) → WorkedOut n (countsOf s) s (holding lim s t)
+  unfolding each sizes countsOf inUse
+  worked-out n e =
+      record {
+        trues = ap (λ (k : ℕ). take k (holding lim s t .trues)) (sym (e .clauses)) ∙ ap (λ (u : Tables). u .trues) (holding-used lim s t v);
+        breaks = subst (λ (k : ℕ). take k (holding lim s t .breaks) ≡ listOf k (breakCount (s .values) (s .file .clauses))) (e .terms)
+            (ap (λ (u : Tables). u .breaks) (holding-used lim s t v));
+        listed = λ c. ap (times c) list-back ∙ v .listed .same-times c;
+      }
 
   -- a clause that is not in the list has no place
   no-place : (c : ℕ) → c < length (s .file .clauses) → has c (s .uncovered) ≡ false → getD (holding lim s t .places) c 0 ≡ 0
@@ -255,8 +266,9 @@ unfolding countsOf
 acceptable-leaves lim ts n t h =
     record {
       stands = subst (λ u. Stands lim after t (countsOf after) u) (sym out) (stands-in lim after t valid (h .full));
+      worked-out = subst (λ u. WorkedOut n (countsOf after) after u) (sym out) (worked-out lim after t valid n kept);
       after = demanded;
-      counts = same-file lim n t after (h .agrees) (h .full) (flipped-file ts (stateIn n t));
+      counts = kept;
       any-order = λ us same.
           let k = reordered lim ts us n t same h in
           let o = demanded .any-order us same in
@@ -275,6 +287,9 @@ acceptable-leaves lim ts n t h =
 
     valid : Valid lim after
     valid = after-valid lim ts n t h
+
+    kept : SameFile n (countsOf after)
+    kept = same-file lim n t after (h .agrees) (h .full) (flipped-file ts (stateIn n t))
 
     demanded : AfterFlips ts (stateIn n t)
     demanded = demand-three lim ts (stateIn n t) (before-valid lim ts n t h) (names-known lim ts n t h)

@@ -8,9 +8,9 @@ use lib.ListN.{length, getD, take, drop}
 use lib.Dec.{ltb}
 use Rattle.written.specs.declared.Counts.{Counts}
 use Rattle.written.specs.declared.Flipped.the-variants as F
-use Rattle.written.specs.Lists.{all, has, times}
+use Rattle.written.specs.Lists.{all, listOf, has, times}
 use Rattle.written.specs.Limits.{Limits}
-use Rattle.written.specs.Clauses.{State, trueCount, breakCount, afresh}
+use Rattle.written.specs.Clauses.{State, trueCount, breakCount, uncoveredIn, afresh}
 use Rattle.written.specs.Flips.{flipped}
 use Rattle.written.specs.Tables.{Tables, areFull}
 use Rattle.written.specs.Agreement.{stateIn, agree}
@@ -23,8 +23,6 @@ use Rattle.laws.specs.Calls.{Stands, SameFile}
 pub record SameButOrder (a b : State) : Type 0 where
   pub file : a .file ≡ b .file
   pub values : a .values ≡ b .values
-  pub trues : map (trueCount (a .values)) (a .file .clauses) ≡ map (trueCount (b .values)) (b .file .clauses)
-  pub breaks : (t : ℕ) → breakCount (a .values) (a .file .clauses) t ≡ breakCount (b .values) (b .file .clauses) t
   pub uncovered : (c : ℕ) → times c (a .uncovered) ≡ times c (b .uncovered)
   pub uncovered-count : length (a .uncovered) ≡ length (b .uncovered)
 
@@ -33,8 +31,7 @@ pub record AfterFlips (ts : List ℕ) (s : State) : Type 0 where
   -- "Afterwards each term's value has turned exactly if the list names it an odd number of times."
   pub odd : (t : ℕ) → t < length (s .file .names) → times t ts % 2 ≡ 1 → getD (flipped ts s .values) t 0 ≡ 1 - getD (s .values) t 0
   pub even : (t : ℕ) → t < length (s .file .names) → times t ts % 2 ≡ 0 → getD (flipped ts s .values) t 0 ≡ getD (s .values) t 0
-  -- "Each clause's number of true literals, each term's break count and the set of uncovered clauses are those worked out afresh from
-  -- the clauses and values."
+  -- "the set of uncovered clauses" is that "worked out afresh from the clauses and values"; the counts stand in tables alone: see WorkedOut
   pub worked-out : SameButOrder (flipped ts s) (afresh (s .file) (flipped ts s .values))
   -- "So two lists that name each term equally often, in any order, leave the same"
   pub any-order : (us : List ℕ) → ((t : ℕ) → times t ts ≡ times t us) → SameButOrder (flipped ts s) (flipped us s)
@@ -65,10 +62,19 @@ pub record SameButList (k : ℕ) (a b : Tables) : Type 0 where
   pub places-count : length (a .places) ≡ length (b .places)
   pub other-places : (c : ℕ) → has c (take k (a .uncovered)) ≡ false → getD (a .places) c 0 ≡ getD (b .places) c 0
 
+-- "Each clause's number of true literals, each term's break count and the set of uncovered clauses are those worked out afresh from the clauses
+-- and values": of tables u in which s stands, n counts its clauses and terms, and m those uncovered
+pub record WorkedOut (n m : Counts) (s : State) (u : Tables) : Type 0 where
+  pub trues : take (n .clauses) (u .trues) ≡ map (trueCount (s .values)) (s .file .clauses)
+  pub breaks : take (n .terms) (u .breaks) ≡ listOf (n .terms) (breakCount (s .values) (s .file .clauses))
+  pub listed : (c : ℕ) → times c (take (m .uncovered) (u .uncovered)) ≡ times c (uncoveredIn (s .values) (s .file .clauses))
+
 -- what a call has done that answered with counts m: "Flip lists are applied whole"
 pub record Accepted (lim : Limits) (ts : List ℕ) (n m : Counts) (t : Tables) : Type 0 where
   -- the tables hold the state after the flips, and agree with the counts
   pub stands : Stands lim (flipped ts (stateIn n t)) t m (flipsOf lim ts n t .tables)
+  -- its counts and its uncovered list, as they stand in the tables
+  pub worked-out : WorkedOut n m (flipped ts (stateIn n t)) (flipsOf lim ts n t .tables)
   -- that state is the one demanded
   pub after : AfterFlips ts (stateIn n t)
   -- the file's counts are those given
