@@ -37,8 +37,6 @@ pub struct Reader<'a> {
     text: &'a [u8],
     position: usize,
     line: u64,
-    /// The end or the fault that was told: "the end and faults repeat".
-    last: Option<Item>,
 }
 
 impl<'a> Reader<'a> {
@@ -47,30 +45,26 @@ impl<'a> Reader<'a> {
             text,
             position: 0,
             line: 1,
-            last: None,
         }
     }
 
     /// Tells the next item; this is no iterator, since the end and faults repeat.
     #[allow(clippy::should_implement_trait)]
     pub fn next(&mut self) -> Item {
-        if let Some(item) = self.last {
-            return item;
-        }
+        let stood = self.position;
         self.pass_while(|byte| byte == SPACE);
         let item = Item {
             told: self.tell(),
             line: self.line,
         };
-        self.move_past(item);
+        self.move_past(item.told, stood);
         item
     }
 
-    /// Told to pass, it goes on to the line's end, "bytes of any kind included", and stands on it.
+    /// Told to pass, whatever was told before, it goes on to the line's end, "bytes of any kind
+    /// included", and stands on it.
     pub fn pass(&mut self) {
-        if self.last.is_none() {
-            self.pass_while(|byte| byte != LINE_FEED);
-        }
+        self.pass_while(|byte| byte != LINE_FEED);
     }
 
     /// What stands at the position, where no space stands.
@@ -86,16 +80,17 @@ impl<'a> Reader<'a> {
         }
     }
 
-    /// Leaves behind what was told; the end and faults are kept instead.
-    fn move_past(&mut self, item: Item) {
-        match item.told {
+    /// Leaves behind what was told; before the end or a fault it goes back to where it stood:
+    /// "the end and faults repeat".
+    fn move_past(&mut self, told: Told, stood: usize) {
+        match told {
             Told::Literal { .. } => self.pass_while(|byte| byte != SPACE && byte != LINE_FEED),
             Told::True => self.pass(),
             Told::LineEnd => {
                 self.position += 1;
                 self.line += 1;
             }
-            Told::TextEnd | Told::Fault(_) => self.last = Some(item),
+            Told::TextEnd | Told::Fault(_) => self.position = stood,
         }
     }
 

@@ -12,8 +12,9 @@ use oracle::generate::draws::ReaderStep;
 use oracle::generate::lent::lengthen;
 use oracle::generate::lines::opposite_word;
 use oracle::generate::*;
-use oracle::reader::{Reader, Told};
+use oracle::reader::{Item, Reader, Told};
 use oracle::reading::read;
+use oracle::reasons::TEXT_CUT;
 use oracle::sheet::read_sheet;
 use oracle::state::State;
 use oracle::walk::{walk, walk_telling};
@@ -494,30 +495,55 @@ fn the_longest_output_fits() {
     assert!(length > 9 * NARROW.terms);
 }
 
+/// After the end or a fault comes the same again; once a fault is passed, the end of its line, or that the text is cut there.
+fn may_follow(end: Item, passed: bool, item: Item) -> bool {
+    if end.told == Told::TextEnd || !passed {
+        return item == end;
+    }
+    matches!(item.told, Told::LineEnd | Told::Fault(TEXT_CUT)) && item.line == end.line
+}
+
+/// Has a reader follow a script; counts what it tells after the end and after faults.
+fn follow(text: &[u8], script: Vec<ReaderStep>, met: &mut BTreeMap<String, u64>) {
+    let mut reader = Reader::new(text);
+    let (mut line, mut end, mut passed) = (1, None, false);
+    for step in script {
+        if step == ReaderStep::Pass {
+            reader.pass();
+            passed = true;
+            continue;
+        }
+        let item = reader.next();
+        assert!(item.line >= line);
+        if let Some(end) = end {
+            assert!(may_follow(end, passed, item), "{item:?} after {end:?}");
+            let pair = format!("{:?} after {:?}", item.told, end.told);
+            *met.entry(pair).or_insert(0) += 1;
+        }
+        let ends = matches!(item.told, Told::TextEnd | Told::Fault(_));
+        (line, end, passed) = (item.line, ends.then_some(item), false);
+    }
+}
+
 #[test]
-fn the_reader_repeats_its_end_and_never_goes_back_a_line() {
+fn the_reader_repeats_its_end_and_repeats_faults_until_told_to_pass() {
     let mut met = BTreeMap::new();
     for seed in 0..6_000 {
         let random = &mut Random::new(seed);
         let text = clause_text_within(&SMALL, random);
-        let mut reader = Reader::new(&text);
-        let (mut line, mut last) = (1, None);
-        for step in reader_script(text.len() + 8, random) {
-            if step == ReaderStep::Pass {
-                reader.pass();
-                continue;
-            }
-            let item = reader.next();
-            assert!(item.line >= line && last.is_none_or(|end| end == item));
-            line = item.line;
-            if matches!(item.told, Told::TextEnd | Told::Fault(_)) {
-                last = Some(item);
-                *met.entry(format!("{:?}", item.told)).or_insert(0) += 1;
-            }
-        }
+        let script = reader_script(text.len() + 8, random);
+        follow(&text, script, &mut met);
     }
-    let ends = ["TextEnd", "Fault(3)", "Fault(4)", "Fault(5)"];
-    assert!(ends.iter().all(|end| met[*end] > 50), "{met:?}");
+    for same in ["TextEnd", "Fault(3)", "Fault(4)", "Fault(5)"] {
+        assert!(met[&format!("{same} after {same}")] > 50, "{met:?}");
+    }
+    for passed in [
+        "LineEnd after Fault(4)",
+        "LineEnd after Fault(5)",
+        "Fault(3) after Fault(4)",
+    ] {
+        assert!(met[passed] > 50, "{met:?}");
+    }
 }
 
 #[test]

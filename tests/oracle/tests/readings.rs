@@ -13,7 +13,10 @@ use oracle::{run, Order, Tables};
 
 /// All that a reader tells, up to the end or a fault.
 fn told(text: impl AsRef<[u8]>) -> Vec<(Told, u64)> {
-    let mut reader = Reader::new(text.as_ref());
+    told_by(&mut Reader::new(text.as_ref()))
+}
+
+fn told_by(reader: &mut Reader) -> Vec<(Told, u64)> {
     let mut items = Vec::new();
     loop {
         let item = reader.next();
@@ -24,8 +27,13 @@ fn told(text: impl AsRef<[u8]>) -> Vec<(Told, u64)> {
     }
 }
 
+/// The end or the fault that a reader comes to.
+fn first_end(reader: &mut Reader) -> (Told, u64) {
+    *told_by(reader).last().expect("an end is told")
+}
+
 fn last_told(text: impl AsRef<[u8]>) -> Told {
-    told(text).last().expect("an end is told").0
+    first_end(&mut Reader::new(text.as_ref())).0
 }
 
 fn literal(text: &str) -> Told {
@@ -174,12 +182,34 @@ fn point_11_passing_right_after_a_lines_end_passes_the_next_line() {
 }
 
 #[test]
-fn point_11_after_the_end_or_a_fault_passing_does_nothing() {
-    for text in ["", "\t\na\n", "a\n"] {
+fn point_11_passing_after_a_fault_goes_to_the_end_of_its_line() {
+    let faulty = [("\t\na\n", 4), ("b ~~ c\na\n", 4), ("abcdefghi\na\n", 5)];
+    for (text, reason) in faulty {
         let mut reader = Reader::new(text.as_bytes());
-        let items: Vec<_> = (0..5).map(|_| reader.next()).collect();
+        assert_eq!(first_end(&mut reader), (Told::Fault(reason), 1), "{text}");
         reader.pass();
-        assert_eq!(reader.next(), items[4]);
+        let told = [reader.next(), reader.next()].map(|item| (item.told, item.line));
+        assert_eq!(told, [(Told::LineEnd, 1), (literal("a"), 2)], "{text}");
+    }
+}
+
+#[test]
+fn point_11_passing_a_line_that_is_cut_ends_in_3() {
+    for (text, told) in [("a\n\tb", 4), ("\nabcdefghi", 5), ("a\nb", 3)] {
+        let mut reader = Reader::new(text.as_bytes());
+        assert_eq!(first_end(&mut reader), (Told::Fault(told), 2), "{text}");
+        reader.pass();
+        assert_eq!(first_end(&mut reader), (Told::Fault(3), 2), "{text}");
+    }
+}
+
+#[test]
+fn point_11_at_the_texts_end_passing_changes_nothing() {
+    for (text, line) in [("", 1), ("a\n", 2), ("~ \t\n\n", 3)] {
+        let mut reader = Reader::new(text.as_bytes());
+        assert_eq!(first_end(&mut reader), (Told::TextEnd, line), "{text}");
+        reader.pass();
+        assert_eq!(first_end(&mut reader), (Told::TextEnd, line), "{text}");
     }
 }
 
