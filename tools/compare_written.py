@@ -1,5 +1,5 @@
 #!/usr/bin/env python3
-"""compare_written.py [SEED [COUNT]]: the definitions of `written` against the independent program, on generated calls.
+"""compare_written.py [SEED [COUNT]]: the definitions of `written` and `scan` against the independent program, on generated calls.
 
 The program prints calls with what they answer and leave (tests/oracle/examples/rows.rs), and the prover computes the same calls from the
 definitions, in a copy of the repository. Last line: 'N passed, M failed'."""
@@ -15,7 +15,13 @@ CHUNK = 40
 HEAD = """-- Generated calls, computed.
 use Prim.Native.Nat.{ℕ}
 use mathlib.Core.Path.{refl}
+use mathlib.Core.Bool.{Bool, true, false, cond}
 use mathlib.Core.List.{List, [], _∷_}
+use Rattle.scan.specs.declared.Cursor.{Cursor}
+use Rattle.scan.specs.declared.Token.{Token}
+use Rattle.scan.specs.declared.Token.the-variants.{Literal, True, Line, End, Cut, Bad, Long}
+use Rattle.scan.specs.declared.Step.{Step}
+use Rattle.scan.specs.Scan.{scan, passed, cursorAt, reasonOf, lineOf}
 use Rattle.written.specs.declared.Counts.{Counts}
 use Rattle.written.specs.declared.Order.{Order}
 use Rattle.written.specs.Limits.{Limits}
@@ -24,7 +30,7 @@ use Rattle.written.specs.Outcomes.{Values, readingOf, walkOf, flipsOf, r
 use Rattle.written.specs.Program.{runOf}
 use Rattle.written.specs.Computing.{computing, Example, _tells_, Tells}
 
--- what a call answers and leaves: of a run, its length, the tables and the buffer
+-- what a call answers and leaves: of a run, its length, the tables and the buffer; of a reader's steps, their numbers
 pub record Seen : Type 0 where
   pub numbers : List ℕ
   pub tables : Tables
@@ -60,6 +66,31 @@ flipping ts n t = shown (flipValues (flipsOf limits ts n t .answer)) (flipsOf li
 
 abbrev running : List ℕ → Tables → List ℕ → Seen
 running x t b = ran (runOf limits x t b .length) (runOf limits x t b .tables) (runOf limits x t b .buffer)
+
+abbrev stepped : List ℕ → Seen
+stepped ns = record { numbers = ns; tables = lent [] [] [] [] [] [] [] [] [] []; buffer = [] }
+
+-- a token's kind, name and sign, then where reading goes on, before the numbers of the steps after
+abbrev row : Token → ℕ → ℕ → ℕ → Cursor → List ℕ → List ℕ
+row k kind name sign c more = kind ∷ reasonOf k ∷ lineOf k ∷ name ∷ sign ∷ c .at ∷ c .line ∷ more
+
+abbrev telling : Token → Cursor → List ℕ → List ℕ
+telling (Literal l) c more = row (Literal l) 1 (l .name) (cond (l .negated) 1 0) c more
+telling (True n) c more = row (True n) 2 0 0 c more
+telling (Line n) c more = row (Line n) 3 0 0 c more
+telling (End n) c more = row (End n) 4 0 0 c more
+telling (Cut n) c more = row (Cut n) 0 0 0 c more
+telling (Bad n) c more = row (Bad n) 0 0 0 c more
+telling (Long n) c more = row (Long n) 0 0 0 c more
+
+-- the numbers of a script's steps, true for the next token and false for passing
+abbrev steps : List ℕ → List Bool → Cursor → List ℕ
+steps t [] c = []
+steps t (true ∷ more) c = let s : Step = scan t c in telling (s .token) (s .next) (steps t more (s .next))
+steps t (false ∷ more) c = let p : Cursor = passed t c in 0 ∷ 0 ∷ 0 ∷ 0 ∷ 0 ∷ p .at ∷ p .line ∷ steps t more p
+
+abbrev scanning : List ℕ → ℕ → ℕ → List Bool → Seen
+scanning t at line script = stepped (steps t script (cursorAt at line))
 
 abbrev table : List (Example Seen)
 table =

@@ -4,10 +4,11 @@
 use std::fmt::Display;
 
 use oracle::flips::flip;
-use oracle::generate::{flip_case, read_case, run_case, walk_case, Random};
+use oracle::generate::{flip_case, read_case, reader_case, run_case, walk_case, Random};
+use oracle::reader::ReaderStep;
 use oracle::reading::read;
 use oracle::walk::walk;
-use oracle::{run_on, Counts, Limits, Tables};
+use oracle::{run_on, Counts, Limits, Reader, Tables};
 
 /// Small enough for the prover to compute, and met by short texts.
 const LIMITS: Limits = Limits {
@@ -21,6 +22,9 @@ const LIMITS: Limits = Limits {
 /// More flips than this take the prover too long.
 const FLIPS: u64 = 40;
 
+/// As do longer texts where each of many steps looks at the whole of them.
+const SCANNED: usize = 60;
+
 fn main() {
     let numbers: Vec<u64> = std::env::args()
         .skip(1)
@@ -33,11 +37,12 @@ fn main() {
     let mut random = Random::new(seed);
     let mut printed = 0;
     while printed < count {
-        let row = match printed % 4 {
+        let row = match printed % 5 {
             0 => reading(&mut random),
             1 => walking(&mut random),
             2 => flipping(&mut random),
-            _ => running(&mut random),
+            3 => running(&mut random),
+            _ => scanning(&mut random),
         };
         if let Some(row) = row {
             println!("{row}");
@@ -106,6 +111,25 @@ fn running(random: &mut Random) -> Option<String> {
         list(&case.out),
         tables(&after),
         list(&out),
+    ))
+}
+
+/// The steps of a script, one after the other, in one list of numbers.
+fn scanning(random: &mut Random) -> Option<String> {
+    let case = reader_case(random);
+    if case.text.len() > SCANNED {
+        return None;
+    }
+    let mut reader = Reader::standing_at(&case.text, case.at, case.line);
+    let told = reader.follow(&case.script).concat();
+    let script = case.script.iter().map(|step| *step == ReaderStep::Next);
+    Some(format!(
+        "(scanning {} {} {} {}) tells (stepped {})",
+        list(&case.text),
+        case.at,
+        case.line,
+        list(&script.collect::<Vec<bool>>()),
+        list(&told),
     ))
 }
 

@@ -1,6 +1,6 @@
 //! The reader over a clause text: one literal at a time.
 
-use crate::reasons::{BYTE_NOT_ALLOWED, NINTH_BYTE, TEXT_CUT};
+use crate::reasons::{BYTE_NOT_ALLOWED, NINTH_BYTE, NONE, TEXT_CUT};
 
 pub const LINE_FEED: u8 = 10;
 const SPACE: u8 = 32;
@@ -31,6 +31,32 @@ pub struct Item {
     pub line: u64,
 }
 
+impl Item {
+    /// Its kind (1 a literal, 2 "true", 3 a line's end, 4 the text's end, 0 a fault), reason, line,
+    /// name and sign.
+    pub fn numbers(self) -> [u64; 5] {
+        let (kind, reason, name, negated) = match self.told {
+            Told::Literal { name, negated } => (1, NONE, name, u64::from(negated)),
+            Told::True => (2, NONE, 0, 0),
+            Told::LineEnd => (3, NONE, 0, 0),
+            Told::TextEnd => (4, NONE, 0, 0),
+            Told::Fault(reason) => (0, reason, 0, 0),
+        };
+        [kind, reason, self.line, name, negated]
+    }
+}
+
+/// What the reader is told to do.
+#[derive(Clone, Copy, Debug, PartialEq, Eq)]
+pub enum ReaderStep {
+    Next,
+    Pass,
+}
+
+/// What a step tells, as numbers, then the place and the line where reading goes on; passing tells
+/// nothing, so its row has 0 there.
+pub type Row = [u64; 7];
+
 /// "A reader over the lent text hands out one literal at a time and remembers its line."
 #[derive(Clone, Debug)]
 pub struct Reader<'a> {
@@ -41,11 +67,33 @@ pub struct Reader<'a> {
 
 impl<'a> Reader<'a> {
     pub fn new(text: &'a [u8]) -> Reader<'a> {
+        Reader::standing_at(text, 0, 1)
+    }
+
+    /// A reader made by hand: it may stand anywhere, past the text's end too.
+    pub fn standing_at(text: &'a [u8], position: usize, line: u64) -> Reader<'a> {
         Reader {
             text,
-            position: 0,
-            line: 1,
+            position,
+            line,
         }
+    }
+
+    /// Does each step; a row for each.
+    pub fn follow(&mut self, script: &[ReaderStep]) -> Vec<Row> {
+        script.iter().map(|step| self.row_of(*step)).collect()
+    }
+
+    fn row_of(&mut self, step: ReaderStep) -> Row {
+        let [kind, reason, line, name, negated] = match step {
+            ReaderStep::Next => self.next().numbers(),
+            ReaderStep::Pass => {
+                self.pass();
+                [0; 5]
+            }
+        };
+        let at = self.position as u64;
+        [kind, reason, line, name, negated, at, self.line]
     }
 
     /// Tells the next item; this is no iterator, since the end and faults repeat.
@@ -69,8 +117,7 @@ impl<'a> Reader<'a> {
 
     /// What stands at the position, where no space stands.
     fn tell(&self) -> Told {
-        let rest = &self.text[self.position..];
-        match rest {
+        match self.rest() {
             [] => end_of(self.text),
             [LINE_FEED, ..] => Told::LineEnd,
             [TILDE] => Told::Fault(TEXT_CUT),
@@ -88,15 +135,19 @@ impl<'a> Reader<'a> {
             Told::True => self.pass(),
             Told::LineEnd => {
                 self.position += 1;
-                self.line += 1;
+                self.line = self.line.saturating_add(1);
             }
             Told::TextEnd | Told::Fault(_) => self.position = stood,
         }
     }
 
     fn pass_while(&mut self, passed: impl Fn(u8) -> bool) {
-        let rest = self.text[self.position..].iter();
+        let rest = self.rest().iter();
         self.position += rest.take_while(|byte| passed(**byte)).count();
+    }
+
+    fn rest(&self) -> &'a [u8] {
+        self.text.get(self.position..).unwrap_or_default()
     }
 }
 

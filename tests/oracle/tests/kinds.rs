@@ -8,6 +8,7 @@ use common::*;
 use oracle::agree::agree;
 use oracle::flips::flip;
 use oracle::generate::*;
+use oracle::reader::is_name_byte;
 use oracle::reasons::{
     NO_CLAUSE, TEXT_TOO_LONG, TOO_MANY_CLAUSES, TOO_MANY_LITERALS, TOO_MANY_TERMS,
 };
@@ -270,6 +271,52 @@ fn assert_verdict(kind: DamageKind, agrees: bool, unchanged: bool) {
             assert_eq!(agrees, unchanged, "{kind:?}");
         }
         EntryInUse | EntryByOne | EntriesSwapped | ValueTurned => assert!(agrees || !unchanged),
+    }
+}
+
+/// Whether some word of the text, between spaces and line ends, has this form.
+fn has_word(text: &[u8], form: impl Fn(&[u8]) -> bool) -> bool {
+    let mut words = text.split(|byte| matches!(byte, b' ' | b'\n'));
+    words.any(form)
+}
+
+#[test]
+fn reader_cases_have_every_form_and_begin_anywhere() {
+    let forms: [(&str, fn(&ReaderCase) -> bool); 11] = [
+        ("empty text", |case| case.text.is_empty()),
+        ("empty line", |case| {
+            case.text.windows(2).any(|pair| pair == b"\n\n")
+        }),
+        ("cut inside a line", |case| {
+            case.text.last().is_some_and(|last| *last != b'\n')
+        }),
+        ("tab", |case| case.text.contains(&b'\t')),
+        ("two ~", |case| {
+            has_word(&case.text, |word| word.starts_with(b"~~"))
+        }),
+        ("lone ~", |case| has_word(&case.text, |word| word == b"~")),
+        ("byte over 127", |case| {
+            case.text.iter().any(|byte| *byte > 127)
+        }),
+        ("name of 8", |case| {
+            has_word(&case.text, |word| {
+                word.len() == 8 && word.iter().all(|byte| is_name_byte(*byte))
+            })
+        }),
+        ("name of 9", |case| {
+            has_word(&case.text, |word| {
+                word.len() == 9 && word.iter().all(|byte| is_name_byte(*byte))
+            })
+        }),
+        ("past the end", |case| case.at > case.text.len()),
+        ("highest line", |case| case.line == u64::MAX),
+    ];
+    let cases: Vec<ReaderCase> = (0..2_000)
+        .map(|seed| reader_case(&mut Random::new(seed)))
+        .collect();
+    for (form, has) in forms {
+        let met = cases.iter().filter(|case| has(case)).count();
+        assert!(met > 40, "{form}: {met}");
     }
 }
 

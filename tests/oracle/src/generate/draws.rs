@@ -1,4 +1,4 @@
-//! Numbers for draws asked for alone, and scripts for the reader.
+//! Numbers for draws asked for alone.
 
 use super::random::Random;
 use crate::order::{SEEDS, THOUSANDTHS};
@@ -9,13 +9,6 @@ pub struct DrawCase {
     pub state: u64,
     pub among: u64,
     pub bias: u64,
-}
-
-/// What the reader is told to do.
-#[derive(Clone, Copy, Debug, PartialEq, Eq)]
-pub enum ReaderStep {
-    Next,
-    Pass,
 }
 
 /// Numbers at the ends of their ranges, 0 and past them too, or any.
@@ -35,13 +28,4 @@ pub fn draw_case(random: &mut Random) -> DrawCase {
         most,
     ]);
     DrawCase { state, among, bias }
-}
-
-/// So many steps, mostly to tell the next item.
-pub fn reader_script(length: usize, random: &mut Random) -> Vec<ReaderStep> {
-    let step = |random: &mut Random| match random.below(5) {
-        0 => ReaderStep::Pass,
-        _ => ReaderStep::Next,
-    };
-    (0..length).map(|_| step(random)).collect()
 }
