@@ -1,5 +1,5 @@
 /*
- * Calls the library for programs that cannot link it: each request on standard input is one call, its answer goes to standard output.
+ * Calls the library and the reader for programs that cannot link them: each request on standard input is one call, its answer goes to standard output.
  * Numbers are little-endian; a request begins with its opcode, and everything but entries and bytes of text is 32 bits wide.
  *
  *   opcode    request                                                    answer
@@ -11,6 +11,10 @@
  *   6 choice  a state, how many to choose among                          the same
  *   7 heads   a state, a bias                                            the same
  *   8 run     the lengths of input and output, then the bytes of each    status, the length that ngi_run gave, input, output, ten tables
+ *   9 follow  0 for the reader or 1 for its cursor, the lengths of text  status, a row of seven numbers for each step, text
+ *             and script, place, line, then the bytes of each
+ *
+ * A script's byte is 0 to pass and 1 to tell the next item. The place and the line where following begins, and the rows, are 64 bits wide.
  *
  * The length that ngi_run gave is 64 bits wide. Guards stand before and after all that is lent. The status is 0 where every guard is as it was,
  * else one more than the number of the first table that has lost one, or 11 for the list, the text or the input, or 12 for the output. The end
@@ -18,13 +22,30 @@
  */
 #include <stdint.h>
 #include <stdlib.h>
+#include <string.h>
 #include <unistd.h>
 
 #include "ngiyarumba.h"
 
-enum { LEND = 1, FLIP = 2, READ = 3, WALK = 4, DRAW = 5, CHOICE = 6, HEADS = 7, RUN = 8 };
+enum { LEND = 1, FLIP = 2, READ = 3, WALK = 4, DRAW = 5, CHOICE = 6, HEADS = 7, RUN = 8, FOLLOW = 9 };
 enum { TABLES = 10, GUARD = 64 };
 enum { INPUT_CUT = 1, OUTPUT_CLOSED = 2, NO_MEMORY = 3, UNKNOWN_OPCODE = 4 };
+
+/* --- the calls of libreader.a, which has no header --- */
+
+/* What is told, and where reading goes on; the fields are the numbers of a row, in their order. */
+typedef struct {
+    uint32_t kind, reason;
+    size_t line;
+    uint64_t name;
+    uint32_t negated;
+    size_t at, below;
+} reader_told;
+
+reader_told reader_token(const uint8_t *text, size_t text_len, size_t at, size_t line);
+size_t reader_line_end(const uint8_t *text, size_t text_len, size_t at);
+reader_told cursor_token(const uint8_t *text, size_t text_len, size_t at, size_t line);
+size_t cursor_pass(const uint8_t *text, size_t text_len, size_t at, size_t line);
 
 /* Entries to lend, with GUARD bytes before and after them. */
 struct lent {
@@ -35,6 +56,9 @@ struct lent {
 static struct lent tables[TABLES] = {{0, 0, 8}, {0, 0, 4}, {0, 0, 2}, {0, 0, 2}, {0, 0, 2},
                                      {0, 0, 2}, {0, 0, 2}, {0, 0, 2}, {0, 0, 2}, {0, 0, 2}};
 static struct lent list = {0, 0, 2}, text = {0, 0, 1}, input = {0, 0, 1}, output = {0, 0, 1};
+
+/* What following a script takes and gives: bytes, and seven numbers for each of them. */
+static struct lent script = {0, 0, 1}, rows = {0, 0, 7 * sizeof(uint64_t)};
 
 /* What a call is lent beside the tables; NULL ends it. */
 static const struct lent *const nothing[] = {NULL}, *const with_list[] = {&list, NULL}, *const with_text[] = {&text, NULL},
@@ -207,6 +231,51 @@ static void run(void)
     give_answer(&length, sizeof length, with_input_and_output);
 }
 
+static reader_told told(int by_cursor, size_t at, size_t line)
+{
+    return by_cursor ? cursor_token(LENT(text), at, line) : reader_token(LENT(text), at, line);
+}
+
+/* Passing tells nothing but the place it goes to. */
+static reader_told passed(int by_cursor, size_t at, size_t line)
+{
+    reader_told nothing_told = {0};
+    nothing_told.at = by_cursor ? cursor_pass(LENT(text), at, line) : reader_line_end(LENT(text), at);
+    nothing_told.below = line;
+    return nothing_told;
+}
+
+/* Goes through the script from a place and its line, and leaves a row for each of its steps. */
+static void fill_rows(int by_cursor, size_t at, size_t line)
+{
+    const unsigned char *steps = entries(&script);
+    uint64_t(*row)[7] = entries(&rows);
+    for (size_t step = 0; step < script.count; step++) {
+        reader_told t = steps[step] ? told(by_cursor, at, line) : passed(by_cursor, at, line);
+        const uint64_t numbers[7] = {t.kind, t.reason, t.line, t.name, t.negated, t.at, t.below};
+        memcpy(row[step], numbers, sizeof numbers);
+        at = t.at;
+        line = t.below;
+    }
+}
+
+static void follow(void)
+{
+    uint64_t place_and_line[2];
+    uint32_t by_cursor = take_number();
+    renew(&text, take_number());
+    renew(&script, take_number());
+    renew(&rows, (uint32_t)script.count);
+    take(place_and_line, sizeof place_and_line);
+    take_entries(&text);
+    take_entries(&script);
+    fill_rows(by_cursor != 0, place_and_line[0], place_and_line[1]);
+    uint32_t lost = guards_stand(&text) ? 0 : TABLES + 1;
+    give(&lost, sizeof lost);
+    give_entries(&rows);
+    give_entries(&text);
+}
+
 static void give_drawn(ngi_drawn drawn)
 {
     give(&drawn, sizeof drawn);
@@ -257,6 +326,9 @@ int main(void)
             break;
         case RUN:
             run();
+            break;
+        case FOLLOW:
+            follow();
             break;
         default:
             exit(UNKNOWN_OPCODE);

@@ -6,13 +6,16 @@ use std::time::Duration;
 
 use oracle::draw::Drawn;
 use oracle::flips::FlipAnswer;
+use oracle::generate::ReaderCase;
+use oracle::kinds;
+use oracle::reader::{ReaderStep, Row};
 use oracle::reading::ReadAnswer;
 use oracle::walk::WalkAnswer;
 use oracle::{Counts, Order, Tables};
 
 use crate::differences::TABLE_NAMES;
 use crate::watch::Watched;
-use crate::wire::{entries_of, put_entries, put_numbers, request, NUMBER_WIDTH};
+use crate::wire::{bytes_of, entries_of, put_entries, put_numbers, request, NUMBER_WIDTH};
 use crate::NARROW;
 
 /// `tests/host/build` writes it.
@@ -26,10 +29,16 @@ const DRAW: u32 = 5;
 const CHOICE: u32 = 6;
 const HEADS: u32 = 7;
 const RUN: u32 = 8;
+const FOLLOW: u32 = 9;
 
-/// Bytes of a flip list's entry, and of a text's.
+/// Bytes of a flip list's entry, of a text's, and of a number of a reader's row.
 const TERM_WIDTH: usize = 2;
 const BYTE_WIDTH: usize = 1;
+const ROW_WIDTH: usize = 8;
+
+/// What the host calls a reader's steps.
+const PASS: u8 = 0;
+const NEXT: u8 = 1;
 
 /// No call takes nearly so long, not even under an emulator.
 const PATIENCE: Duration = Duration::from_secs(120);
@@ -52,6 +61,18 @@ pub struct Called<Answer> {
 
 /// The name, length and width of entries that are lent beside the tables.
 type Shape = (&'static str, usize, usize);
+
+kinds! {
+    /// Who reads; the host counts them from 0.
+    pub enum Scanner {
+        Reader,
+        /// The cursor that the reader is thin over.
+        Cursor,
+    }
+}
+
+/// The rows that a script has told, and the text as it stands after the calls.
+pub type Followed = (Vec<Row>, Vec<u8>);
 
 /// What went wrong with a call, in words.
 pub type Fault = String;
@@ -154,6 +175,23 @@ impl Host {
         self.drawn(HEADS, &[state, bias])
     }
 
+    /// A reader's case, step by step.
+    pub fn follow(&mut self, by: Scanner, case: &ReaderCase) -> Result<Followed, Fault> {
+        let lengths = [case.text.len() as u64, case.script.len() as u64];
+        let mut request = request(FOLLOW, &[by as u64, lengths[0], lengths[1]]);
+        put_entries(&mut request, &[case.at as u64, case.line], ROW_WIDTH);
+        request.extend(&case.text);
+        request.extend(case.script.iter().map(|step| step_byte(*step)));
+        self.send(&request)?;
+        self.see_guards(&[("text", case.text.len(), BYTE_WIDTH)])?;
+        let row = |_| -> Result<Row, Fault> {
+            let numbers = self.entries(Row::default().len(), ROW_WIDTH)?;
+            Ok(numbers.try_into().expect("a row has its length"))
+        };
+        let rows = case.script.iter().map(row).collect::<Result<_, _>>()?;
+        Ok((rows, bytes_of(&self.entries(case.text.len(), BYTE_WIDTH)?)))
+    }
+
     fn drawn(&mut self, opcode: u32, numbers: &[u64]) -> Result<Drawn, Fault> {
         self.send(&request(opcode, numbers))?;
         Ok(Drawn {
@@ -243,6 +281,13 @@ impl Host {
         let requests = &mut self.requests;
         let sent = self.process.wait_by(|| requests.write_all(request));
         sent.map_err(|_| self.process.end())
+    }
+}
+
+fn step_byte(step: ReaderStep) -> u8 {
+    match step {
+        ReaderStep::Next => NEXT,
+        ReaderStep::Pass => PASS,
     }
 }
 

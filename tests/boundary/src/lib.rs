@@ -8,6 +8,7 @@ pub mod readings;
 pub mod rubbish;
 pub mod run_kinds;
 pub mod runs;
+pub mod scanners;
 pub mod sides;
 pub mod tally;
 pub mod texts;
@@ -18,6 +19,7 @@ pub mod wire;
 pub use draws::Draws;
 pub use readings::Readings;
 pub use runs::Runs;
+pub use scanners::Scanners;
 pub use sides::Sides;
 pub use tally::Tally;
 

@@ -47,7 +47,7 @@ impl Item {
 }
 
 /// What the reader is told to do.
-#[derive(Clone, Copy, Debug, PartialEq, Eq)]
+#[derive(Clone, Copy, Debug, PartialEq, Eq, PartialOrd, Ord)]
 pub enum ReaderStep {
     Next,
     Pass,

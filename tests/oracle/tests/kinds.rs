@@ -280,6 +280,10 @@ fn has_word(text: &[u8], form: impl Fn(&[u8]) -> bool) -> bool {
     words.any(form)
 }
 
+fn is_name(word: &[u8], length: usize) -> bool {
+    word.len() == length && word.iter().all(|byte| is_name_byte(*byte))
+}
+
 #[test]
 fn reader_cases_have_every_form_and_begin_anywhere() {
     let forms: [(&str, fn(&ReaderCase) -> bool); 11] = [
@@ -299,14 +303,10 @@ fn reader_cases_have_every_form_and_begin_anywhere() {
             case.text.iter().any(|byte| *byte > 127)
         }),
         ("name of 8", |case| {
-            has_word(&case.text, |word| {
-                word.len() == 8 && word.iter().all(|byte| is_name_byte(*byte))
-            })
+            has_word(&case.text, |word| is_name(word, 8))
         }),
         ("name of 9", |case| {
-            has_word(&case.text, |word| {
-                word.len() == 9 && word.iter().all(|byte| is_name_byte(*byte))
-            })
+            has_word(&case.text, |word| is_name(word, 9))
         }),
         ("past the end", |case| case.at > case.text.len()),
         ("highest line", |case| case.line == u64::MAX),
