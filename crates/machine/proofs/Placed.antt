@@ -54,10 +54,10 @@ module _ (C : ℕ) (κ κ′ ρ ρ′ : ℕ → ℕ) (u : Uncovered) (h : Placed
     e = getD (u .list) m 0
 
     abbrev list′ : List ℕ
-    list′ = set (set (u .list) p e) m 0
+    list′ = leaves c y u .list
 
     abbrev places′ : List ℕ
-    places′ = set (set (u .places) e p) c y
+    places′ = leaves c y u .places
 
     p<n : p < u .number
     p<n = h .low c lc z
@@ -75,22 +75,28 @@ module _ (C : ℕ) (κ κ′ ρ ρ′ : ℕ → ℕ) (u : Uncovered) (h : Placed
     at-p = h .found c lc z
 
     list-other : (j : ℕ) → (j ≡ m → ⊥) → (j ≡ p → ⊥) → getD list′ j 0 ≡ getD (u .list) j 0
-    list-other j jm jp = getD-set-other (set (u .list) p e) m j 0 0 jm ∙ getD-set-other (u .list) p j e 0 jp
+    unfolding leaves
+    list-other j jm jp = getD-set-other (set (u .list) p e) m j _ 0 jm ∙ getD-set-other (u .list) p j e 0 jp
 
     list-p : (p ≡ m → ⊥) → getD list′ p 0 ≡ e
-    list-p pm = let a = p<n in let b = h .fits in let r = h .list-room in getD-set-other (set (u .list) p e) m p 0 0 pm ∙ getD-set-same (u .list) p e 0 (omega arith)
+    unfolding leaves
+    list-p pm = let a = p<n in let b = h .fits in let r = h .list-room in getD-set-other (set (u .list) p e) m p _ 0 pm ∙ getD-set-same (u .list) p e 0 (omega arith)
 
     list-m : getD list′ m 0 ≡ 0
-    list-m = let a = m<n in let b = h .fits in let r = h .list-room in getD-set-same (set (u .list) p e) m 0 0 (simp length-set (omega arith))
+    unfolding leaves
+    list-m = let a = m<n in let b = h .fits in let r = h .list-room in getD-set-same (set (u .list) p e) m _ 0 (simp length-set (omega arith))
 
     places-c : getD places′ c 0 ≡ y
-    places-c = let r = h .places-room in getD-set-same (set (u .places) e p) c y 0 (simp length-set (omega arith))
+    unfolding leaves
+    places-c = let r = h .places-room in getD-set-same (set (u .places) e _) c y 0 (simp length-set (omega arith))
 
     places-e : (e ≡ c → ⊥) → getD places′ e 0 ≡ p
-    places-e ec = let a = e<C in let r = h .places-room in getD-set-other (set (u .places) e p) c e y 0 ec ∙ getD-set-same (u .places) e p 0 (omega arith)
+    unfolding leaves
+    places-e ec = let a = e<C in let r = h .places-room in getD-set-other (set (u .places) e _) c e y 0 ec ∙ getD-set-same (u .places) e _ 0 (omega arith)
 
     places-other : (d : ℕ) → (d ≡ c → ⊥) → (d ≡ e → ⊥) → getD places′ d 0 ≡ getD (u .places) d 0
-    places-other d dc de = getD-set-other (set (u .places) e p) c d y 0 dc ∙ getD-set-other (u .places) e d p 0 de
+    unfolding leaves
+    places-other d dc de = getD-set-other (set (u .places) e _) c d y 0 dc ∙ getD-set-other (u .places) e d _ 0 de
 
     -- the last entry is c only where c has the last slot
     e≢c : (p ≡ m → ⊥) → e ≡ c → ⊥
