@@ -1,13 +1,18 @@
 #!/usr/bin/env python3
-"""map_names.py [SCOPE]: every name that docs/MAP.md and docs/STATEMENTS.md cite exists, and each row of the map cites something, each
-name in the column of its kind. Last line: 'N passed, M failed'.
+"""map_names.py [SCOPE]: every name that the pages of docs cite exists, each row of the map cites something, each name in the column of its
+kind, and each open point of docs/DECISIONS.md cites what says it. Last line: 'N passed, M failed'.
 
 `CRATE/File.name`          a definition of crates/CRATE/specs or a law of crates/CRATE/proofs
 `CRATE::name`              a public function of crates/CRATE/src, also `CRATE::Type::name`
 `CRATE/src/FILE.rt::name`  a function of that file, public or not
 `CRATE/must-fail/name`     an edit
+`CRATE/specs/..`, `CRATE/proofs/..`, `CRATE/src/..`, `CRATE/File`
+                           a file or a folder of that crate, {A,B} for several; .antt may be left out
 `FILE.rs::name`            a test of tests/oracle/tests/FILE.rs or tests/boundary/tests/FILE.rs; the first words of its name are enough
 `docs/FILE.md#Heading`     a section of a page; `docs/..`, `tests/..`, `crates/..`, `tools/..` a file
+
+What an open point cites stands in brackets at its end, by its bare name: definitions of `written` or of the crates that it cites. A crate and a
+file before them, as in [`scan` Scan: `tilde`], say that they stand there.
 
 The rows of the map's tables whose first column is "sentence" carry the scope's words, " .. " where some are left out. The scope is no part
 of this repository. Given its path, the rows are compared with it: its headings, each sentence once and in its order, no words without a row;
@@ -19,6 +24,9 @@ from pathlib import Path
 
 ROOT = Path(__file__).resolve().parent.parent
 MAP = "docs/MAP.md"
+DECISIONS = "docs/DECISIONS.md"
+PAGES = (MAP, "docs/STATEMENTS.md", DECISIONS, "docs/PROOFS.md")
+PROMISES = ("written", "scan", "draw", "words", "reader")  # the crates whose specs define what is promised
 COLUMNS = {
     "definition": {"definition"},
     "contract": {"function", "source"},
@@ -74,11 +82,25 @@ def standing(path, heading):
     return "file" if not heading or re.search(r"(?m)^#+ %s$" % re.escape(heading), text([page])) else None
 
 
+def inside(crate, path):
+    """A file or a folder of a crate; where several are named, each of them."""
+    home = ROOT / "crates" / crate
+    several = re.fullmatch(r"(.*)\{(.*)\}(.*)", path)
+    paths = [several[1] + part + several[3] for part in several[2].split(",")] if several else [path]
+    return "file" if all((home / one).exists() or (home / f"{one}.antt").exists() for one in paths) else None
+
+
+def module(crate, file):
+    return inside(crate, f"specs/{file}") or inside(crate, f"proofs/{file}")
+
+
 LOOKS = (
     (r"((?:docs|tests|tools|crates(?=/[a-z]))/[^#]+)(?:#(\S+))?", standing),
     (r"(\w+)/must-fail/(\w+)", edit),
     (r"(\w+)/src/(\w+)\.rt::(\w+)", code),
     (r"(\w+)\.rs::(\w+)", test),
+    (r"(\w+)/((?:specs|proofs|src)(?:/\S+)?)", inside),
+    (r"([a-z]\w*)/([A-Z]\w*)", module),
     (r"(\w+)/(\w+)\.(\S+)", declared),
     (r"([a-z]\w*)::(\S+)", function),
 )
@@ -131,6 +153,32 @@ def seal(page):
     return hashlib.sha256("\n".join(f"{heading}\t{words}" for heading, words in sentences(page)).encode()).hexdigest()[:16]
 
 
+# ---- the open points
+
+
+def points(page):
+    """The number and the words of each."""
+    section = re.search(r"(?ms)^## Open points.*?(?=^## )", page).group()
+    return re.findall(r"(?ms)^(\d+)\. (.*?)(?=^\d+\. |^\S|^$)", section)
+
+
+def defines(crates, file, name):
+    """Whether one of the crates has such a definition, in that file if one is named."""
+    files = [(crate, path.stem) for crate in crates for path in (ROOT / "crates" / crate / "specs").glob(f"{file or '*'}.antt")]
+    return any(declared(crate, stem, name) == "definition" for crate, stem in files)
+
+
+def faults_of_point(words):
+    brackets = re.search(r"\[(?:`(\w+)` (\w+)(?:: )?)?([^\[\]]*)\]\s*$", words)
+    if not brackets:
+        return ["cites nothing"]
+    crate, file, names = brackets.groups()
+    if crate and not module(crate, file):
+        return [f"{crate} has no {file}"]
+    missing = [name for name in cited(names) if not defines([crate] if crate else PROMISES, file, name)]
+    return [f"{name} is no definition" for name in missing] if crate or cited(names) else ["cites nothing"]
+
+
 # ---- the scope
 
 
@@ -181,7 +229,7 @@ def compare(page, scope):
 def main():
     page = (ROOT / MAP).read_text()
     passed, faults = 0, []
-    for name_of_page in (MAP, "docs/STATEMENTS.md"):
+    for name_of_page in PAGES:
         kinds = [(name, kind_of(name)) for name in cited((ROOT / name_of_page).read_text())]
         passed += sum(1 for _, kind in kinds if kind)
         faults += [f"{name_of_page}: {name} is missing" for name, kind in kinds if kind is None]
@@ -189,6 +237,10 @@ def main():
         wrong = faults_of(columns, cells)
         passed += not wrong
         faults += [f"{MAP}: {fault}: {cells[0]}" for fault in wrong]
+    for number, words in points((ROOT / DECISIONS).read_text()):
+        wrong = faults_of_point(words)
+        passed += not wrong
+        faults += [f"{DECISIONS}: point {number}: {fault}" for fault in wrong]
     if len(sys.argv) > 1:
         faults += compare(page, Path(sys.argv[1]).read_text())
         print(f"{len(sentences(page))} rows; their seal is {seal(page)}")
