@@ -3,7 +3,7 @@
 use boundary::scanners::case_of;
 use boundary::tally::share_out;
 use boundary::texts::texts_over;
-use boundary::{Scanners, Tally};
+use boundary::{Scanners, Tally, NARROW};
 use oracle::generate::{reader_case, Random, ReaderCase};
 use oracle::reader::{pack, ReaderStep, Row};
 use oracle::reasons::{BYTE_NOT_ALLOWED, NINTH_BYTE, NONE, TEXT_CUT};
@@ -45,7 +45,7 @@ fn expect_from(at: usize, line: u64, text: &str, script: &str, rows: &[Row]) {
 }
 
 #[test]
-fn literals_true_and_both_ends_are_told_with_their_lines() {
+fn point_12_literals_true_and_both_ends_are_told_with_their_lines() {
     let rows = [
         literal("a", 0, 1, 1),
         literal("bcdefghi", 1, 1, 11),
@@ -59,7 +59,7 @@ fn literals_true_and_both_ends_are_told_with_their_lines() {
 }
 
 #[test]
-fn a_fault_repeats_until_it_is_passed_and_its_lines_end_is_told_then() {
+fn point_11_a_fault_repeats_until_it_is_passed_and_its_lines_end_is_told_then() {
     let rows = [
         told(FAULT, BYTE_NOT_ALLOWED, 1, 0, 1),
         told(FAULT, BYTE_NOT_ALLOWED, 1, 0, 1),
@@ -71,7 +71,7 @@ fn a_fault_repeats_until_it_is_passed_and_its_lines_end_is_told_then() {
 }
 
 #[test]
-fn after_a_fault_the_reader_stands_where_it_stood_before_the_spaces() {
+fn point_11_after_a_fault_the_reader_stands_where_it_stood_before_the_spaces() {
     let rows = [
         literal("a", 0, 1, 1),
         told(FAULT, BYTE_NOT_ALLOWED, 1, 1, 1),
@@ -82,14 +82,14 @@ fn after_a_fault_the_reader_stands_where_it_stood_before_the_spaces() {
 }
 
 #[test]
-fn true_is_told_before_the_cut() {
+fn point_13_true_is_told_before_the_cut() {
     let cut = told(FAULT, TEXT_CUT, 1, 2, 1);
     let rows = [told(TRUE, NONE, 1, 2, 1), cut, passed(2, 1), cut];
     expect("~ ", "nnpn", &rows);
 }
 
 #[test]
-fn nine_bytes_cut_are_reason_5_and_once_passed_reason_3() {
+fn point_13_nine_bytes_cut_are_reason_5_and_once_passed_reason_3() {
     let rows = [
         told(FAULT, NINTH_BYTE, 1, 0, 1),
         passed(9, 1),
@@ -99,20 +99,20 @@ fn nine_bytes_cut_are_reason_5_and_once_passed_reason_3() {
 }
 
 #[test]
-fn passing_at_the_texts_end_changes_nothing() {
+fn point_11_passing_at_the_texts_end_changes_nothing() {
     let end = told(TEXT_END, NONE, 2, 1, 2);
     let rows = [told(LINE_END, NONE, 1, 1, 2), end, passed(1, 2), end];
     expect("\n", "nnpn", &rows);
 }
 
 #[test]
-fn an_empty_text_has_its_end_on_line_1() {
+fn point_12_an_empty_text_has_its_end_on_line_1() {
     let end = told(TEXT_END, NONE, 1, 0, 1);
     expect("", "nnpn", &[end, end, passed(0, 1), end]);
 }
 
 #[test]
-fn a_place_past_the_end_is_the_end() {
+fn point_12_a_place_past_the_end_is_the_end() {
     let end = told(TEXT_END, NONE, 7, LAST, 7);
     let rows = [end, passed(LAST, 7), end];
     expect_from(usize::MAX, 7, "a\n", "npn", &rows);
@@ -121,13 +121,43 @@ fn a_place_past_the_end_is_the_end() {
 }
 
 #[test]
-fn the_highest_line_is_not_left() {
+fn point_12_the_highest_line_is_not_left() {
     let rows = [
         told(LINE_END, NONE, LAST - 1, 1, LAST),
         told(LINE_END, NONE, LAST, 2, LAST),
         told(TEXT_END, NONE, LAST, 2, LAST),
     ];
     expect_from(0, LAST - 1, "\n\n", "nnn", &rows);
+}
+
+#[test]
+fn point_10_after_true_and_after_passing_the_lines_end_is_told() {
+    let rows = [
+        told(TRUE, NONE, 1, 3, 1),
+        told(LINE_END, NONE, 1, 4, 2),
+        literal("a", 0, 2, 5),
+        passed(7, 2),
+        told(LINE_END, NONE, 2, 8, 3),
+    ];
+    expect("~ \t\na \t\n", "nnnpn", &rows);
+}
+
+#[test]
+fn point_11_passing_right_after_a_lines_end_passes_the_next_line() {
+    let rows = [
+        told(LINE_END, NONE, 1, 1, 2),
+        passed(2, 2),
+        told(LINE_END, NONE, 2, 3, 3),
+        literal("b", 0, 3, 4),
+    ];
+    expect("\na\nb\n", "npnn", &rows);
+}
+
+#[test]
+fn point_14_a_text_of_any_length_is_read() {
+    let spaces = " ".repeat(NARROW.text);
+    let place = NARROW.text as u64 + 1;
+    expect(&(spaces + "a\n"), "n", &[literal("a", 0, 1, place)]);
 }
 
 /// With its last byte 10 and without.
