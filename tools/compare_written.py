@@ -15,12 +15,11 @@ CHUNK = 40
 HEAD = """-- Generated calls, computed.
 use Prim.Native.Nat.{ℕ}
 use mathlib.Core.Path.{refl}
-use mathlib.Core.Bool.{Bool, true, false, cond}
+use mathlib.Core.Bool.{cond}
 use mathlib.Core.List.{List, [], _∷_}
 use Rattle.scan.specs.declared.Cursor.{Cursor}
 use Rattle.scan.specs.declared.Token.{Token}
 use Rattle.scan.specs.declared.Token.the-variants.{Literal, True, Line, End, Cut, Bad, Long}
-use Rattle.scan.specs.declared.Step.{Step}
 use Rattle.scan.specs.Scan.{scan, passed, cursorAt, reasonOf, lineOf}
 use Rattle.written.specs.declared.Counts.{Counts}
 use Rattle.written.specs.declared.Order.{Order}
@@ -83,14 +82,19 @@ telling (Cut n) c more = row (Cut n) 0 0 0 c more
 telling (Bad n) c more = row (Bad n) 0 0 0 c more
 telling (Long n) c more = row (Long n) 0 0 0 c more
 
--- the numbers of a script's steps, true for the next token and false for passing
-abbrev steps : List ℕ → List Bool → Cursor → List ℕ
-steps t [] c = []
-steps t (true ∷ more) c = let s : Step = scan t c in telling (s .token) (s .next) (steps t more (s .next))
-steps t (false ∷ more) c = let p : Cursor = passed t c in 0 ∷ 0 ∷ 0 ∷ 0 ∷ 0 ∷ p .at ∷ p .line ∷ steps t more p
+-- a step from a place and its line, written out: computed from the step before, the prover would compute all steps before it again
+pub data Asked : Type 0 where
+  next : ℕ → ℕ → Asked
+  pass : ℕ → ℕ → Asked
 
-abbrev scanning : List ℕ → ℕ → ℕ → List Bool → Seen
-scanning t at line script = stepped (steps t script (cursorAt at line))
+-- the numbers of all steps
+abbrev steps : List ℕ → List Asked → List ℕ
+steps t [] = []
+steps t (next at line ∷ more) = telling (scan t (cursorAt at line) .token) (scan t (cursorAt at line) .next) (steps t more)
+steps t (pass at line ∷ more) = 0 ∷ 0 ∷ 0 ∷ 0 ∷ 0 ∷ passed t (cursorAt at line) .at ∷ passed t (cursorAt at line) .line ∷ steps t more
+
+abbrev scanning : List ℕ → List Asked → Seen
+scanning t asked = stepped (steps t asked)
 
 abbrev table : List (Example Seen)
 table =

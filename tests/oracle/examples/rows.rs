@@ -114,23 +114,32 @@ fn running(random: &mut Random) -> Option<String> {
     ))
 }
 
-/// The steps of a script, one after the other, in one list of numbers.
+/// The steps of a script, each from where the one before has left the reader, in one list of numbers.
 fn scanning(random: &mut Random) -> Option<String> {
     let case = reader_case(random);
     if case.text.len() > SCANNED {
         return None;
     }
     let mut reader = Reader::standing_at(&case.text, case.at, case.line);
-    let told = reader.follow(&case.script).concat();
-    let script = case.script.iter().map(|step| *step == ReaderStep::Next);
+    let rows = reader.follow(&case.script);
+    let begun = [case.at as u64, case.line];
+    let left = rows.iter().map(|[.., at, line]| [*at, *line]);
+    let places = [begun].into_iter().chain(left);
+    let asked: Vec<String> = case.script.iter().zip(places).map(asked).collect();
     Some(format!(
-        "(scanning {} {} {} {}) tells (stepped {})",
+        "(scanning {} {}) tells (stepped {})",
         list(&case.text),
-        case.at,
-        case.line,
-        list(&script.collect::<Vec<bool>>()),
-        list(&told),
+        list(&asked),
+        list(&rows.concat()),
     ))
+}
+
+fn asked((step, place): (&ReaderStep, [u64; 2])) -> String {
+    let word = match step {
+        ReaderStep::Next => "next",
+        ReaderStep::Pass => "pass",
+    };
+    format!("{word} {}", spaced(&place))
 }
 
 /// Whether the sheet's flips and walks, as far as they can be read, are many together.
