@@ -1,10 +1,12 @@
 // A reader over lent clause text: a struct that holds the text, the place and the line, and thin functions over it. Each takes
 // the struct apart and calls a covered function of `scan` on the slice and the numbers.
 ghost use mathlib.Core.Path.{_≡_};
-ghost use Rattle.scan.specs.Scan.{scan, cursorAt, restAt};
+ghost use Rattle.scan.specs.Scan.{scan, passed, cursorAt, restAt, toldOf};
 ghost use Rattle.reader.specs.Held.{stepOf, after};
+use scan::Cursor;
 use scan::Step;
 use scan::Token;
+use scan::Told;
 
 pub struct Reader<'a> {
     pub text: &'a [u8],
@@ -56,4 +58,38 @@ pub fn token_at(text: &[u8], at: usize, line: usize) -> Step
     ensures { λ s. ⌜ s ≡ scan (now (text .entry)) (cursorAt at line) ⌝ }
 {
     next(Reader { text, at, line })
+}
+
+// The same in numbers, for C: the token's kind, reason and line, and where reading goes on.
+#[no_mangle]
+pub extern "C" fn reader_token(text: &[u8], at: usize, line: usize) -> Told
+    ensures { λ r. ⌜ r ≡ toldOf (scan (now (text .entry)) (cursorAt at line)) ⌝ }
+{
+    scan::in_numbers(token_at(text, at, line))
+}
+
+// Where a reader that is told to pass goes on.
+#[no_mangle]
+pub extern "C" fn reader_line_end(text: &[u8], at: usize) -> usize
+    ensures { λ r. ⌜ r ≡ restAt (now (text .entry)) at ⌝ }
+{
+    scan::line_end(text, at)
+}
+
+// Both by the scanner's cursor.
+#[no_mangle]
+pub extern "C" fn cursor_token(text: &[u8], at: usize, line: usize) -> Told
+    ensures { λ r. ⌜ r ≡ toldOf (scan (now (text .entry)) (cursorAt at line)) ⌝ }
+{
+    let c = Cursor { at, line };
+    scan::in_numbers(c.next(text))
+}
+
+#[no_mangle]
+pub extern "C" fn cursor_pass(text: &[u8], at: usize, line: usize) -> usize
+    ensures { λ r. ⌜ r ≡ passed (now (text .entry)) (cursorAt at line) .at ⌝ }
+{
+    let c = Cursor { at, line };
+    let e = c.pass(text);
+    e.at
 }
