@@ -24,7 +24,7 @@ use Rattle.written.specs.Clauses.{File}
 use Rattle.written.specs.Reading.{Reading, accepted, refused, readText}
 use Rattle.written.specs.Walk.{Outcome, walkOver}
 use Rattle.written.specs.Sheet.{isDigit, valueOfDigits, sheetOf}
-use Rattle.written.specs.Printed.{decimal, line, refusal, report}
+use Rattle.written.specs.Printed.{decimal, line, refusedBy, refusal, report}
 use Rattle.written.specs.Program.{Course, unbegun, unread, walked, afterReading, afterSheet, courseOf, said, printed}
 use Rattle.laws.specs.Sheets.{Faulty, Says}
 use Rattle.laws.specs.Sheets.Faulty.{wrong-form, out-of-range}
@@ -42,7 +42,7 @@ module _ (lim : Limits) (input : List ℕ) where
   unfolding courseOf
   long-course l = rw (lt-ltb (lim .text) (length input) l) refl
 
-  pub sheet-course : (e : Fault) → length input ≤ lim .text → sheetOf input ≡ O.Refused e → courseOf lim input ≡ unbegun e
+  pub sheet-course : (e : Fault) → length input ≤ lim .text → sheetOf input ≡ O.Refused e → courseOf lim input ≡ unbegun (O.Refused e)
   unfolding courseOf afterSheet
   sheet-course e h q = rw (le-ltb (lim .text) (length input) h, q) refl
 
@@ -60,7 +60,7 @@ module _ (lim : Limits) (input : List ℕ) where
 
   -- what holds of each course that can be gone
   module _ (P : Course → Type 0) (long : lim .text < length input → P (unread (fault LongText)))
-      (sheet : (e : Fault) → length input ≤ lim .text → sheetOf input ≡ O.Refused e → P (unbegun e))
+      (sheet : (e : Fault) → length input ≤ lim .text → sheetOf input ≡ O.Refused e → P (unbegun (O.Refused e)))
       (text : (s : Sheet) (e : Fault) → Begun lim input s → readText lim (textAfter s input) ≡ refused e → P (unread e))
       (walk : (s : Sheet) (f : File) → Begun lim input s → readText lim (textAfter s input) ≡ accepted f → P (walked (walkOver (s .order) f))) where
     by-reading : (s : Sheet) (r : Reading) → Begun lim input s → readText lim (textAfter s input) ≡ r → P (courseOf lim input)
@@ -134,7 +134,7 @@ reason-at UnknownTerm = refl
 reason-at LongList = refl
 
 pub refusal-one : (d e : Fault) → refusal d ≡ refusal e → d ≡ e
-unfolding refusal
+unfolding refusedBy
 refusal-one d e h =
     let after : Fault → List ℕ = λ f. line "line=" (decimal (f .line)) in
     let k = numbers-end (numberOf (d .reason)) (numberOf (e .reason)) (after d) (after e)
@@ -162,15 +162,15 @@ module _ (c : Course) where
   unfolding said report
   up-begins e q f = rw (q, f) refl
 
-  refused-begins : (e : Fault) → (c ≡ unbegun e) ⊎ (c ≡ unread e) → Begins "result=refused\n" (said c)
-  unfolding said refusal
-  refused-begins e (inl q) = rw q refl
-  refused-begins e (inr q) = rw q refl
+  refused-begins : ((a : Ordered) × (c ≡ unbegun a)) ⊎ ((e : Fault) × (c ≡ unread e)) → Begins "result=refused\n" (said c)
+  unfolding said refusedBy
+  refused-begins (inl (a, q)) = rw q refl
+  refused-begins (inr (e, q)) = rw q refl
 
 by-result : {A : Type 0} (c : Course) → ((e : Outcome) → c ≡ walked e → e .found ≡ true → A) → ((e : Outcome) → c ≡ walked e → e .found ≡ false → A)
-    → ((e : Fault) → (c ≡ unbegun e) ⊎ (c ≡ unread e) → A) → A
-by-result (unbegun e) f g r = r e (inl refl)
-by-result (unread e) f g r = r e (inr refl)
+    → (((a : Ordered) × (c ≡ unbegun a)) ⊎ ((e : Fault) × (c ≡ unread e)) → A) → A
+by-result (unbegun a) f g r = r (inl (a, refl))
+by-result (unread e) f g r = r (inr (e, refl))
 by-result (walked e) f g r = by-cases (e .found) (f e refl) (g e refl)
 
 module _ (lim : Limits) (input : List ℕ) where
@@ -187,7 +187,7 @@ module _ (lim : Limits) (input : List ℕ) where
 
   does-refuse : IsRefused lim input → Prints "result=refused\n"
   unfolding printed
-  does-refuse h = refused-begins (courseOf lim input) (h .0) (h .1)
+  does-refuse h = refused-begins (courseOf lim input) h
 
   -- no two of the lines
   apart : (s r : String) → 7 < length (bytes s) → 7 < length (bytes r) → Prints s → Prints r → mark (bytes s) ≡ mark (bytes r)
@@ -207,7 +207,7 @@ module _ (lim : Limits) (input : List ℕ) where
   printed-some =
       by-result (courseOf lim input) (λ e q f. some "result=found\n" (omega arith) (omega arith) (does-find (e, q, f)))
       (λ e q f. some "result=gaveup\n" (omega arith) (omega arith) (does-give-up (e, q, f)))
-      (λ e q. some "result=refused\n" (omega arith) (omega arith) (does-refuse (e, q)))
+      (λ h. some "result=refused\n" (omega arith) (omega arith) (does-refuse h))
     where
       some : (s : String) → 7 < length (bytes s) → 0 < mark (bytes s) → Prints s → 0 < length (printed lim input)
       some s l m p =
@@ -219,19 +219,19 @@ module _ (lim : Limits) (input : List ℕ) where
       let c = courseOf lim input in
       record {
         found = (
-          λ p. by-result c (λ e q f. (e, q, f)) (λ e q f. absurd (not-both p (does-give-up (e, q, f)))) (λ e q. absurd (not-found-refused p (does-refuse (e, q)))),
+          λ p. by-result c (λ e q f. (e, q, f)) (λ e q f. absurd (not-both p (does-give-up (e, q, f)))) (λ h. absurd (not-found-refused p (does-refuse h))),
           does-find,
         );
         gave-up = (
-          λ p. by-result c (λ e q f. absurd (not-both (does-find (e, q, f)) p)) (λ e q f. (e, q, f)) (λ e q. absurd (not-up-refused p (does-refuse (e, q)))),
+          λ p. by-result c (λ e q f. absurd (not-both (does-find (e, q, f)) p)) (λ e q f. (e, q, f)) (λ h. absurd (not-up-refused p (does-refuse h))),
           does-give-up,
         );
         refused = (
-          λ p. by-result c (λ e q f. absurd (not-found-refused (does-find (e, q, f)) p)) (λ e q f. absurd (not-up-refused (does-give-up (e, q, f)) p)) (λ e q. (e, q)),
+          λ p. by-result c (λ e q f. absurd (not-found-refused (does-find (e, q, f)) p)) (λ e q f. absurd (not-up-refused (does-give-up (e, q, f)) p)) (λ h. h),
           does-refuse,
         );
         one = record {
-          one = by-result c (λ e q f. inl (does-find (e, q, f))) (λ e q f. inr (inl (does-give-up (e, q, f)))) (λ e q. inr (inr (does-refuse (e, q))));
+          one = by-result c (λ e q f. inl (does-find (e, q, f))) (λ e q f. inr (inl (does-give-up (e, q, f)))) (λ h. inr (inr (does-refuse h)));
           not-first-and-second = not-both;
           not-first-and-third = not-found-refused;
           not-second-and-third = not-up-refused;
@@ -242,7 +242,7 @@ module _ (lim : Limits) (input : List ℕ) where
 
 -- no report is a refusal
 report-other : (e : Outcome) (d : Fault) → report e ≡ refusal d → ⊥
-unfolding report refusal
+unfolding report refusedBy
 report-other e d h =
     let marked : mark (report e) ≡ cond (e .found) 102 103 = by-cases (e .found) (λ q. rw q refl) (λ q. rw q refl) in
     let either : cond (e .found) 102 103 ≤ 103 = by-cases (e .found) (λ q. rw q (omega arith)) (λ q. rw q (omega arith)) in

@@ -23,7 +23,7 @@ use Rattle.written.specs.Reading.{Reading, accepted, refused, readText}
 use Rattle.written.specs.Walk.{Outcome, walkOver}
 use Rattle.written.specs.Sheet.{sheetOf}
 use Rattle.written.specs.Orders.{flipsEach, walksAll}
-use Rattle.written.specs.Printed.{decimal, line, answer, chosen, refusal, report}
+use Rattle.written.specs.Printed.{decimal, line, answer, chosen, refusedBy, refusal, report}
 use Rattle.written.specs.Program.{afterReading, afterSheet, courseOf, said, printed, reportSize}
 use Rattle.laws.proofs.Basics.{by-cases}
 use Rattle.laws.proofs.Readings.{reading-proper}
@@ -57,7 +57,7 @@ reason-small LongList = lit< tt
 
 -- a refusal takes 31 bytes and the digits of its line
 pub refusal-length : (e : Fault) (k : ℕ) → 0 < k → e .line < 10 ^ k → length (refusal e) ≤ 31 + k
-unfolding refusal
+unfolding refusedBy
 refusal-length e k h l =
     let n = decimal-length 2 (numberOf (e .reason)) (omega arith) (reason-small (e .reason)) in
     let m = decimal-length k (e .line) h l in

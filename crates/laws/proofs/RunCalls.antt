@@ -14,6 +14,8 @@ use Rattle.scan.specs.Text.{bytes}
 use Rattle.written.specs.declared.Order.{Order}
 use Rattle.written.specs.declared.Sheet.{Sheet}
 use Rattle.written.specs.declared.Fault.{Fault}
+use Rattle.written.specs.declared.Ordered.{Ordered}
+use Rattle.written.specs.declared.RunAnswer.{RunAnswer}
 use Rattle.written.specs.declared.Walked.{Walked}
 use Rattle.written.specs.Lists.{listOf, has}
 use Rattle.written.specs.Limits.{Limits}
@@ -25,7 +27,7 @@ use Rattle.written.specs.Walk.{Outcome, isFound, walkOver}
 use Rattle.written.specs.Tables.{Tables, each, fullSizes, areFull, over, holding, countsOf}
 use Rattle.written.specs.Printed.{decimal, line, answer, chosen, refusal, report}
 use Rattle.written.specs.Outcomes.{Leaves, walkLeaves, walkOf, readingOf}
-use Rattle.written.specs.Program.{Course, unbegun, unread, walked, courseOf, said, printed, reportSize, tablesAfter, Ran, ran, runOf}
+use Rattle.written.specs.Program.{Course, unbegun, unread, walked, courseOf, said, printed, reportSize, tablesAfter, Ran, reported, runRefused, ran, runOf}
 use Rattle.laws.specs.Valid.{isClause, Valid}
 use Rattle.laws.specs.Calls.{Stands}
 use Rattle.laws.specs.ReadCalls.{countsGiven}
@@ -56,16 +58,16 @@ use Rattle.laws.proofs.Courses.{long-course, sheet-course, text-course,
 -- ---- with a table or the buffer shorter than its full size, and with neither
 
 module _ (lim : Limits) (input : List ℕ) (t : Tables) (b : List ℕ) where
-  short-table : areFull lim t ≡ false → runOf lim input t b ≡ record { length = 0; tables = t; buffer = b }
+  short-table : areFull lim t ≡ false → runOf lim input t b ≡ record { answer = runRefused; tables = t; buffer = b }
   unfolding runOf
   short-table h = rw h refl
 
-  short-buffer : length b < reportSize lim → runOf lim input t b ≡ record { length = 0; tables = t; buffer = b }
+  short-buffer : length b < reportSize lim → runOf lim input t b ≡ record { answer = runRefused; tables = t; buffer = b }
   unfolding runOf
   short-buffer h = by-cases (areFull lim t) (λ full. rw (full, lt-ltb (length b) (reportSize lim) h) refl) (λ short. rw short refl)
 
   -- nothing is printed, and all is as it was
-  pub run-short : (areFull lim t ≡ false) ⊎ (length b < reportSize lim) → runOf lim input t b ≡ record { length = 0; tables = t; buffer = b }
+  pub run-short : (areFull lim t ≡ false) ⊎ (length b < reportSize lim) → runOf lim input t b ≡ record { answer = runRefused; tables = t; buffer = b }
   run-short (inl h) = short-table h
   run-short (inr h) = short-buffer h
 
@@ -76,15 +78,34 @@ module _ (lim : Limits) (input : List ℕ) (t : Tables) (b : List ℕ) where
   by-room : {A : Type 0} → (areFull lim t ≡ true → reportSize lim ≤ length b → A) → ((areFull lim t ≡ false) ⊎ (length b < reportSize lim) → A) → A
   by-room told short = by-cases (areFull lim t) (λ full. by-lt (length b) (reportSize lim) (λ l. short (inr l)) (told full)) (λ h. short (inl h))
 
+  abbrev answered : RunAnswer
+  answered = runOf lim input t b .answer
+
   -- a run that was not begun writes nothing, and every other writes something
-  pub nothing-exactly : (runOf lim input t b .length ≡ 0) ↔ ((areFull lim t ≡ false) ⊎ (length b < reportSize lim))
+  pub nothing-exactly : (answered .length ≡ 0) ↔ ((areFull lim t ≡ false) ⊎ (length b < reportSize lim))
   unfolding ran printed
   nothing-exactly = (
     λ q. by-room
-        (λ full room. absurd (omega (arith, printed-some lim input, ap (λ (r : Ran). r .length) (run-ran full room), q)))
+        (λ full room. absurd (omega (arith, printed-some lim input, ap (λ (r : Ran). r .answer .length) (run-ran full room), q)))
         (λ h. h),
-    λ h. ap (λ (r : Ran). r .length) (run-short h),
+    λ h. ap (λ (r : Ran). r .answer .length) (run-short h),
   )
+
+  -- it is refused by 1, and no other reason is given
+  pub reason-exactly : (answered .reason ≡ 1) ↔ ((areFull lim t ≡ false) ⊎ (length b < reportSize lim))
+  unfolding ran
+  reason-exactly = (
+    λ q. by-room (λ full room. absurd (omega (arith, ap (λ (r : Ran). r .answer .reason) (run-ran full room), q))) (λ h. h),
+    λ h. ap (λ (r : Ran). r .answer .reason) (run-short h),
+  )
+
+  -- 1 with a report, 0 with the reason 1
+  pub run-answers : ((answered .result ≡ 1) × (answered .reason ≡ 0)) ⊎ ((answered .result ≡ 0) × (answered .reason ≡ 1))
+  unfolding ran
+  run-answers =
+      by-room
+      (λ full room. let e = run-ran full room in inl (ap (λ (r : Ran). r .answer .result) e, ap (λ (r : Ran). r .answer .reason) e))
+      (λ h. let e = run-short h in inr (ap (λ (r : Ran). r .answer .result) e, ap (λ (r : Ran). r .answer .reason) e))
 
 -- ---- how walks came to their end
 
@@ -151,22 +172,22 @@ module _ (lim : Limits) (input : List ℕ) where
       (λ s e b q. cleared-again lim t) (λ s f b q. holding-again lim _ _ t (ends-valid s f b q) (ends-valid s f b q))
 
   -- once the sheet is accepted, only what lies past the full sizes shows
-  leaves-by : (t u : Tables) → each drop (fullSizes lim) t ≡ each drop (fullSizes lim) u → ((e : Fault) → course ≡ unbegun e → ⊥) → leaves t ≡ leaves u
+  leaves-by : (t u : Tables) → each drop (fullSizes lim) t ≡ each drop (fullSizes lim) u → ((a : Ordered) → course ≡ unbegun a → ⊥) → leaves t ≡ leaves u
   unfolding tablesAfter
   leaves-by t u same =
-      by-course lim input (λ c. ((e : Fault) → c ≡ unbegun e → ⊥) → tablesAfter lim t c ≡ tablesAfter lim u c) (λ l n. cleared-by lim t u same)
-      (λ e h q n. absurd (n e refl)) (λ s e b q n. cleared-by lim t u same) (λ s f b q n. holding-by lim _ t u (ends-valid s f b q) same)
+      by-course lim input (λ c. ((a : Ordered) → c ≡ unbegun a → ⊥) → tablesAfter lim t c ≡ tablesAfter lim u c) (λ l n. cleared-by lim t u same)
+      (λ e h q n. absurd (n _ refl)) (λ s e b q n. cleared-by lim t u same) (λ s f b q n. holding-by lim _ t u (ends-valid s f b q) same)
 
   ran-twice : (t : Tables) (b : List ℕ) → ran lim (ran lim t b course .tables) (ran lim t b course .buffer) course ≡ ran lim t b course
   unfolding ran
   ran-twice t b =
       let text = said course in
-      ap₂ (λ (u : Tables) (a : List ℕ). record { length = length text; tables = u; buffer = a }) (leaves-again t)
+      ap₂ (λ (u : Tables) (a : List ℕ). record { answer = reported (length text); tables = u; buffer = a }) (leaves-again t)
       (over-by text (over text b) b (length text) refl (over-drop text b (length text) refl))
 
 module _ (lim : Limits) (few : lim .terms < 10 ^ 9) (short : lim .text + 1 < 10 ^ 20) (input : List ℕ) where
   -- no run prints more than its buffer holds
-  pub run-fits : (t : Tables) (b : List ℕ) → runOf lim input t b .length ≤ length b
+  pub run-fits : (t : Tables) (b : List ℕ) → runOf lim input t b .answer .length ≤ length b
   unfolding ran printed
   run-fits t b =
       by-room lim input t b (λ full room. rw (run-ran lim input t b full room) (omega (arith, printed-fits lim few short input)))
@@ -177,7 +198,7 @@ module _ (lim : Limits) (few : lim .terms < 10 ^ 9) (short : lim .text + 1 < 10 
   told t b full room =
       let text : List ℕ = said (courseOf lim input) in
       record {
-        size = refl;
+        answer = refl;
         first = over-take text b (length text) refl;
         rest = over-drop text b (length text) refl;
         as-long = over-length text b (omega (arith, printed-fits lim few short input));
@@ -191,11 +212,12 @@ module _ (lim : Limits) (few : lim .terms < 10 ^ 9) (short : lim .text + 1 < 10 
 
   -- what stood in the tables and the buffer makes no difference to what is printed
   module _ (t u : Tables) (b c : List ℕ) (ft : areFull lim t ≡ true) (fu : areFull lim u ≡ true) (rb : reportSize lim ≤ length b) (rc : reportSize lim ≤ length c) where
-    pub same-print : take (runOf lim input t b .length) (runOf lim input t b .buffer) ≡ take (runOf lim input u c .length) (runOf lim input u c .buffer)
+    pub same-print : take (runOf lim input t b .answer .length) (runOf lim input t b .buffer)
+        ≡ take (runOf lim input u c .answer .length) (runOf lim input u c .buffer)
     same-print = run-told t b ft rb .first ∙ sym (run-told u c fu rc .first)
 
     -- nor, once the sheet is accepted, to what is left up to the full sizes
-    pub same-tables : each drop (fullSizes lim) t ≡ each drop (fullSizes lim) u → ((e : Fault) → courseOf lim input ≡ unbegun e → ⊥)
+    pub same-tables : each drop (fullSizes lim) t ≡ each drop (fullSizes lim) u → ((a : Ordered) → courseOf lim input ≡ unbegun a → ⊥)
         → runOf lim input t b .tables ≡ runOf lim input u c .tables
     same-tables same begun = run-told t b ft rb .tables ∙ leaves-by lim input t u same begun ∙ sym (run-told u c fu rc .tables)
 

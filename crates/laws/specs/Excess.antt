@@ -18,7 +18,7 @@ pub record SameCall {A : Type 0} (lim : Limits) (a b : Leaves A) : Type 0 where
 
 -- what a run leaves, with t for its tables
 abbrev pub withTables : Ran → Tables → Ran
-withTables r t = record { length = r .length; tables = t; buffer = r .buffer }
+withTables r t = record { answer = r .answer; tables = t; buffer = r .buffer }
 
 -- what a run leaves, the excess cut off
 abbrev pub cut : Limits → Ran → Ran

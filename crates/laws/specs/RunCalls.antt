@@ -14,6 +14,7 @@ use Rattle.scan.specs.declared.Token.the-variants.{Literal, True, Line, End, Cu
 use Rattle.scan.specs.Scan.{scan, cursorAt}
 use Rattle.scan.specs.Text.{bytes}
 use Rattle.written.specs.declared.Sheet.{Sheet}
+use Rattle.written.specs.declared.Ordered.{Ordered}
 use Rattle.written.specs.declared.Ordered.the-variants as O
 use Rattle.written.specs.declared.Reason.the-variants.{LongText}
 use Rattle.written.specs.declared.Fault.{Fault}
@@ -27,7 +28,7 @@ use Rattle.written.specs.Orders.{inRange}
 use Rattle.written.specs.Sheet.{sheetOf}
 use Rattle.written.specs.Tables.{Tables, each, fullSizes, areFull, cleared, countsOf}
 use Rattle.written.specs.Printed.{decimal, line, answer, chosen, refusal}
-use Rattle.written.specs.Program.{unbegun, unread, walked, courseOf, printed, tablesAfter, Ran}
+use Rattle.written.specs.Program.{unbegun, unread, walked, courseOf, printed, tablesAfter, Ran, reported}
 use Rattle.laws.specs.Valid.{Valid}
 use Rattle.laws.specs.Calls.{OneOfThree}
 
@@ -35,10 +36,10 @@ use Rattle.laws.specs.Calls.{OneOfThree}
 
 pub record Told (lim : Limits) (input : List ℕ) (t : Tables) (b : List ℕ) (r : Ran) : Type 0 where
   -- what is printed goes by the input alone, whatever stood in the tables and the buffer; it stands first in the buffer
-  pub size : r .length ≡ length (printed lim input)
-  pub first : take (r .length) (r .buffer) ≡ printed lim input
+  pub answer : r .answer ≡ reported (length (printed lim input))
+  pub first : take (r .answer .length) (r .buffer) ≡ printed lim input
   -- the rest of the buffer is as it was
-  pub rest : drop (r .length) (r .buffer) ≡ drop (r .length) b
+  pub rest : drop (r .answer .length) (r .buffer) ≡ drop (r .answer .length) b
   pub as-long : length (r .buffer) ≡ length b
   -- the tables go by how the run went
   pub tables : r .tables ≡ tablesAfter lim t (courseOf lim input)
@@ -59,7 +60,7 @@ abbrev pub GivesUp : Limits → List ℕ → Type 0
 GivesUp lim input = (e : Outcome) × (courseOf lim input ≡ walked e) × (e .found ≡ false)
 
 abbrev pub IsRefused : Limits → List ℕ → Type 0
-IsRefused lim input = (e : Fault) × ((courseOf lim input ≡ unbegun e) ⊎ (courseOf lim input ≡ unread e))
+IsRefused lim input = ((a : Ordered) × (courseOf lim input ≡ unbegun a)) ⊎ ((e : Fault) × (courseOf lim input ≡ unread e))
 
 pub record Decides (lim : Limits) (input : List ℕ) : Type 0 where
   pub found : Begins "result=found\n" (printed lim input) ↔ Finds lim input

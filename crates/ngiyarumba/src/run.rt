@@ -3,9 +3,10 @@ ghost use mathlib.Core.Path.{_≡_};
 ghost use Rattle.written.specs.Limits.{narrow};
 ghost use Rattle.written.specs.Tables.{lent};
 ghost use Rattle.written.specs.Program.{runOf};
-ghost use Rattle.solving.specs.Running.{ended};
+ghost use Rattle.solving.specs.Running.{answered};
+use written::RunAnswer;
 
-// What stands in `out` is what the program prints for the input; the answer is its length, 0 where a table or `out` is too short.
+// What the program prints for the input stands first in `out`. Result 1 tells so, with its length; 0 that a table or `out` is too short (reason 1).
 #[no_mangle]
 pub extern "C" fn ngi_run(
     input: &[u8],
@@ -20,8 +21,8 @@ pub extern "C" fn ngi_run(
     uncovered_list: &mut [u16],
     places: &mut [u16],
     out: &mut [u8],
-) -> usize
-    ensures { λ r. ⌜ ended r (lent (now (names .exit)) (now (values .exit)) (now (starts .exit)) (now («literals_table» .exit))
+) -> RunAnswer
+    ensures { λ r. ⌜ answered r (lent (now (names .exit)) (now (values .exit)) (now (starts .exit)) (now («literals_table» .exit))
         (now («occurrence_starts» .exit)) (now (occurrences .exit)) (now («true_counts» .exit)) (now («break_counts» .exit)) (now («uncovered_list» .exit)) (now (places .exit))) (now (out .exit))
         ≡ runOf narrow (now (input .entry)) (lent (now (names .entry)) (now (values .entry)) (now (starts .entry)) (now («literals_table» .entry))
         (now («occurrence_starts» .entry)) (now (occurrences .entry)) (now («true_counts» .entry)) (now («break_counts» .entry)) (now («uncovered_list» .entry)) (now (places .entry))) (now (out .entry)) ⌝ }

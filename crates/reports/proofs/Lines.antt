@@ -4,21 +4,19 @@ use mathlib.Core.Path.{_≡_}
 use mathlib.Core.List.{List, [], _∷_, _++_, flatten, append-assoc}
 use Rattle.words.specs.Words.{trues}
 use Rattle.scan.specs.Text.{bytes}
-use Rattle.written.specs.declared.Fault.{Fault}
 use Rattle.written.specs.declared.Tour.{Tour}
 use Rattle.written.specs.Limits.{Limits}
-use Rattle.written.specs.Reasons.{numberOf}
-use Rattle.written.specs.Printed.{decimal, line, refusal}
+use Rattle.written.specs.Printed.{decimal, line, refusedBy}
 use Rattle.reports.specs.Pages.{Page, put, CanPut}
 use Rattle.reports.specs.Reporting.{answerIn, tourLines, foundLines, gaveUpLines}
 use Rattle.reports.proofs.Pieces.{Left, begun, regroup}
 
 module _ (p : Page) where
-  pub refusal-left : (e : Fault) (n : ℕ) → n ≡ numberOf (e .reason) → CanPut (refusal e) p
-      → Left (line "result=" (bytes "refused") ∷ line "reason=" (decimal n) ∷ line "line=" (decimal (e .line)) ∷ []) (put (refusal e) p) p
-  unfolding refusal
-  refusal-left e n q h =
-      rw q (begun (line "result=" (bytes "refused")) (line "reason=" (decimal (numberOf (e .reason))) ∷ line "line=" (decimal (e .line)) ∷ []) p h)
+  pub refusal-left : (reason at n : ℕ) → n ≡ reason → CanPut (refusedBy reason at) p
+      → Left (line "result=" (bytes "refused") ∷ line "reason=" (decimal n) ∷ line "line=" (decimal at) ∷ []) (put (refusedBy reason at) p) p
+  unfolding refusedBy
+  refusal-left reason at n q h =
+      rw q (begun (line "result=" (bytes "refused")) (line "reason=" (decimal reason) ∷ line "line=" (decimal at) ∷ []) p h)
 
   pub gave-up-left : (e : Tour) → CanPut (gaveUpLines e) p
       → Left (tourLines (line "result=" (bytes "gaveup")) e ∷ line "chosen=" (bytes "0") ∷ line "answer=" (bytes "~?") ∷ []) (put (gaveUpLines e) p) p

@@ -13,20 +13,21 @@ use Rattle.written.specs.declared.Sheet.{Sheet}
 use Rattle.written.specs.declared.Ordered.{Ordered}
 use Rattle.written.specs.declared.Ordered.the-variants.{Accepted, Refused}
 use Rattle.written.specs.declared.Reason.the-variants.{LongText}
+use Rattle.written.specs.declared.RunAnswer.{RunAnswer}
 use Rattle.written.specs.Limits.{Limits}
 use Rattle.written.specs.Reasons.{fault}
 use Rattle.written.specs.Reading.{readText}
 use Rattle.written.specs.Tables.{Tables, areFull}
 use Rattle.written.specs.Sheet.{sheetOf}
 use Rattle.written.specs.Printed.{refusal}
-use Rattle.written.specs.Program.{Ran, unbegun, unread, afterReading, afterSheet, courseOf, said, reportSize, tablesAfter, ran, runOf}
+use Rattle.written.specs.Program.{Ran, unbegun, unread, afterReading, afterSheet, courseOf, said, reportSize, tablesAfter, runRefused, ran, runOf}
 use Rattle.laws.proofs.Sheets.{Judged, sheet-judged}
 use Rattle.laws.proofs.RunCalls.{run-short, run-ran}
 use Rattle.machine.proofs.Tests.{said-no, said-yes}
 use Rattle.reading.specs.Clearing.{blanked}
 use Rattle.reading.proofs.Cleared.{blanked-is}
 use Rattle.reports.specs.Pages.{page, put, CanPut}
-use Rattle.solving.specs.Running.{ended, CanRun, CanRead}
+use Rattle.solving.specs.Running.{answered, ended, CanRun, CanRead}
 use Rattle.solving.proofs.Ends.{ended-by, refusal-room}
 
 module _ (lim : Limits) (input : List ℕ) (t : Tables) (b : List ℕ) (can : CanRun lim t b) where
@@ -53,7 +54,7 @@ module _ (lim : Limits) (input : List ℕ) (t : Tables) (b : List ℕ) (can : Ca
     pub sheet-ends : length input ≤ lim .text → {r : ℕ} {out : List ℕ} → page r out ≡ put (refusal e) (page 0 b)
         → ended r t out ≡ ran lim t b (courseOf lim input)
     unfolding afterSheet said tablesAfter
-    sheet-ends short written = ended-by lim t b (unbegun e) refl written ∙ ap (ran lim t b) (sym (after-sheet (Refused e) answer told short))
+    sheet-ends short written = ended-by lim t b (unbegun (Refused e)) refl written ∙ ap (ran lim t b) (sym (after-sheet (Refused e) answer told short))
 
   module _ (s : Sheet) {x : Ordered} (answer : x ≡ sheetOf input) (told : x ≡ Accepted s) where
     pub text-within : s .at ≤ length input
@@ -72,13 +73,14 @@ module _ (lim : Limits) (input : List ℕ) (t : Tables) (b : List ℕ) (can : Ca
 
 -- whether a run can begin
 module _ (lim : Limits) (t : Tables) (b : List ℕ) where
-  pub buffer-short : length b < reportSize lim → (input : List ℕ) → ended 0 t b ≡ runOf lim input t b
-  buffer-short short input = sym (run-short lim input t b (inr short))
+  -- a is answered to a run that is refused
+  pub buffer-short : {a : RunAnswer} → a ≡ runRefused → length b < reportSize lim → (input : List ℕ) → answered a t b ≡ runOf lim input t b
+  buffer-short told short input = ap (λ (x : RunAnswer). answered x t b) told ∙ sym (run-short lim input t b (inr short))
 
   -- r was answered to whether the tables are full
   module _ {r : Bool} (asked : r ≡ areFull lim t) where
-    pub tables-short : not r ≡ true → (input : List ℕ) → ended 0 t b ≡ runOf lim input t b
-    tables-short short input = sym (run-short lim input t b (inl (said-no short asked)))
+    pub tables-short : {a : RunAnswer} → a ≡ runRefused → not r ≡ true → (input : List ℕ) → answered a t b ≡ runOf lim input t b
+    tables-short told short input = ap (λ (x : RunAnswer). answered x t b) told ∙ sym (run-short lim input t b (inl (said-no short asked)))
 
     module _ (yes : not r ≡ false) (room : reportSize lim ≤ length b) where
       pub can-run : CanRun lim t b

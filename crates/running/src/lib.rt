@@ -3,11 +3,12 @@
 ghost use mathlib.Core.Path.{_≡_};
 ghost use Rattle.written.specs.Limits.{narrow};
 ghost use Rattle.written.specs.Tables.{lent};
-ghost use Rattle.written.specs.Program.{courseOf, ran, runOf};
-ghost use Rattle.solving.specs.Running.{ended, CanRun};
+ghost use Rattle.written.specs.Program.{courseOf, ran, runRefused, runOf};
+ghost use Rattle.solving.specs.Running.{answered, ended, CanRun};
 use written::Fault;
 use written::Ordered;
 use written::Reason;
+use written::RunAnswer;
 
 // The tests of the program in their order: its whole input's size, its sheet, its text.
 fn begin(
@@ -66,7 +67,18 @@ fn begin(
     }
 }
 
-// What stands in `out` is what the program prints for the input; 0 and nothing written where a table or `out` is shorter than its full size.
+// Nothing is written where a table or `out` is shorter than its full size.
+fn refused() -> RunAnswer
+    ensures { λ r. ⌜ r ≡ runRefused ⌝ }
+{
+    RunAnswer {
+        result: 0,
+        reason: reasons::number_of(Reason::ShortTable),
+        length: 0,
+    }
+}
+
+// What the program prints for the input stands first in `out`.
 pub fn run_sheet(
     input: &[u8],
     names: &mut [u64],
@@ -80,8 +92,8 @@ pub fn run_sheet(
     uncovered: &mut [u16],
     places: &mut [u16],
     out: &mut [u8],
-) -> usize
-    ensures { λ r. ⌜ ended r (lent (now (names .exit)) (now (values .exit)) (now (starts .exit)) (now (literals .exit))
+) -> RunAnswer
+    ensures { λ r. ⌜ answered r (lent (now (names .exit)) (now (values .exit)) (now (starts .exit)) (now (literals .exit))
         (now («occurrence_starts» .exit)) (now (occurrences .exit)) (now (trues .exit)) (now (breaks .exit)) (now (uncovered .exit)) (now (places .exit))) (now (out .exit))
         ≡ runOf narrow (now (input .entry)) (lent (now (names .entry)) (now (values .entry)) (now (starts .entry)) (now (literals .entry))
         (now («occurrence_starts» .entry)) (now (occurrences .entry)) (now (trues .entry)) (now (breaks .entry)) (now (uncovered .entry)) (now (places .entry))) (now (out .entry)) ⌝ }
@@ -98,12 +110,12 @@ pub fn run_sheet(
         uncovered,
         places,
     ) {
-        return 0; // a table is short
+        return refused(); // a table is short
     }
     if out.len() < 20544 {
-        return 0; // no room for a report
+        return refused(); // no room for a report
     }
-    begin(
+    let n = begin(
         input,
         names,
         values,
@@ -116,5 +128,10 @@ pub fn run_sheet(
         uncovered,
         places,
         out,
-    )
+    );
+    RunAnswer {
+        result: 1,
+        reason: 0,
+        length: n,
+    }
 }

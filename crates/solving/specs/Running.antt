@@ -6,15 +6,20 @@ use mathlib.Core.List.{List}
 use lib.ListN.{length}
 use Rattle.written.specs.declared.Counts.{Counts}
 use Rattle.written.specs.declared.Order.{Order}
+use Rattle.written.specs.declared.RunAnswer.{RunAnswer}
 use Rattle.written.specs.Limits.{Limits}
 use Rattle.written.specs.Orders.{inRange}
 use Rattle.written.specs.Tables.{Tables, areFull}
-use Rattle.written.specs.Program.{Ran, reportSize}
+use Rattle.written.specs.Program.{Ran, reported, reportSize}
 use Rattle.laws.specs.WalkCalls.{Allowed}
 
--- the length written, the tables and the buffer
+-- the answer, the tables and the buffer
+abbrev pub answered : RunAnswer → Tables → List ℕ → Ran
+answered a t b = record { answer = a; tables = t; buffer = b }
+
+-- of a run that was begun: the length written, the tables and the buffer
 abbrev pub ended : ℕ → Tables → List ℕ → Ran
-ended n t b = record { length = n; tables = t; buffer = b }
+ended n t b = answered (reported n) t b
 
 -- full tables, and room for any report
 pub record CanRun (lim : Limits) (t : Tables) (b : List ℕ) : Type 0 where

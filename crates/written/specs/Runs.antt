@@ -9,7 +9,7 @@ use Rattle.scan.specs.Text.{bytes}
 use Rattle.written.specs.Limits.{Limits}
 use Rattle.written.specs.Tables.{Tables}
 use Rattle.written.specs.Sheet.{SheetValues, sheetOf, sheetValues}
-use Rattle.written.specs.Program.{Ran, runOf}
+use Rattle.written.specs.Program.{Ran, reported, runOf}
 use Rattle.written.specs.Calls.{sevens, given, zero, holding, changed}
 use Rattle.written.specs.Computing.{computing, Example, _tells_, Tells}
 
@@ -26,10 +26,11 @@ running input t b = runOf roomy (bytes input) t b
 
 -- these bytes stand first in the buffer
 abbrev pub leaves : String → Tables → Ran
-leaves s t = record { length = length (bytes s); tables = t; buffer = bytes s ++ drop (length (bytes s)) buffer }
+leaves s t = record { answer = reported (length (bytes s)); tables = t; buffer = bytes s ++ drop (length (bytes s)) buffer }
 
+-- refused by 1: all unchanged
 abbrev pub nothing : Tables → List ℕ → Ran
-nothing t b = record { length = 0; tables = t; buffer = b }
+nothing t b = record { answer = record { result = 0; reason = 1; length = 0 }; tables = t; buffer = b }
 
 abbrev pub table : List (Example Ran)
 table =

@@ -1,7 +1,9 @@
 -- `running::begin` meets its contract: an input that is too long and a faulty sheet are refused; else the text is read. Assumes nothing.
 use native.Mathlib.Omega.{arith}
 use borrow.Author.Needs.{needs}
+use Rattle.written.specs.declared.Reason.the-variants.{LongText}
 use Rattle.written.specs.Limits.{narrow}
+use Rattle.written.specs.Reasons.{fault}
 use Rattle.reading.proofs.Cleared.{both-wiped}
 use Rattle.solving.proofs.Ends.{refusal-room}
 use Rattle.running.proofs.Courses.{long-ends, sheet-fits, sheet-ends, text-within, sheet-reads, text-ends}
@@ -47,7 +49,7 @@ pub begin-spec : {M : Type 1} → statement M
 begin-spec =
     tie.close
     (tie.spec (λ c κs. search needs) (λ c κs. search needs)
-    (λ c κs. refusal-room narrow _ _ (c .before .before .before .before .before .before .before .before .before .before .before .before .before .before .before .before .before .before .before .before .before .before .before .before .before .before .before .before .before .before .before .before .before .before .before .before .before .before .before .before .before .before .before .before .before .before .pre) _ (omega arith) (omega arith))
+    (λ c κs. refusal-room narrow _ _ (c .before .before .before .before .before .before .before .before .before .before .before .before .before .before .before .before .before .before .before .before .before .before .before .before .before .before .before .before .before .before .before .before .before .before .before .before .before .before .before .before .before .before .before .before .before .before .pre) (fault LongText) (omega arith) (omega arith))
     (λ c. c .before .before .before .before .before .before .before .before .before .before .before .before .before .before .before .before .before .before .before .before .before .before .before .before .before .before .before .before .before .names .given)
     (λ c. c .before .before .before .before .before .before .before .before .before .before .before .before .before .values .given)
     (λ c. c .before .before .before .before .before .before .before .before .before .before .before .before .before .before .before .before .before .before .before .before .before .before .before .before .before .before .before .starts .given)

@@ -8,11 +8,11 @@ use Rattle.running.proofs.run_sheet.Statement.{statement}
 use Rattle.running.proofs.run_sheet.Tie as tie
 
 returns : tie.Need-returns
-returns c = tables-short narrow _ _ (c .before .are-full .ensures) (c .if1 .taken) _
+returns c = tables-short narrow _ _ (c .before .before .are-full .ensures) (c .refused .ensures) (c .before .if1 .taken) _
 
 returns-2 : tie.Need-returns-2
 unfolding reportSize
-returns-2 c = buffer-short narrow _ _ (c .if2 .taken) _
+returns-2 c = buffer-short narrow _ _ (c .refused2 .ensures) (c .before .if2 .taken) _
 
 begin-requires : tie.Need-begin-requires
 unfolding reportSize
@@ -30,8 +30,8 @@ returns-3 c =
 pub run-sheet-spec : {M : Type 1} → statement M
 run-sheet-spec =
     tie.close
-    (tie.spec (λ c κs. search needs)
-    (λ c. refl) (λ c. refl) (λ c. refl) (λ c. refl) (λ c. refl) (λ c. refl) (λ c. refl) (λ c. refl) (λ c. refl) (λ c. refl) returns
+    (tie.spec (λ c κs. search needs) (λ c κs. search needs)
+    (λ c. refl) (λ c. refl) (λ c. refl) (λ c. refl) (λ c. refl) (λ c. refl) (λ c. refl) (λ c. refl) (λ c. refl) (λ c. refl) returns (λ c κs. search needs)
     (λ c. refl) (λ c. refl) (λ c. refl) (λ c. refl) (λ c. refl) (λ c. refl) (λ c. refl) (λ c. refl) (λ c. refl) (λ c. refl) returns-2 begin-requires
     (λ c. c .before .before .before .before .before .before .before .before .before .before .before .before .before .before .before .before .before .before .before .before .before .names .given)
     (λ c. c .before .before .before .before .before .before .before .before .before .before .before .before .before .before .before .before .before .before .before .values .given)
