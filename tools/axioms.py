@@ -11,7 +11,7 @@ def listed():
     """The axioms of the table "What the proofs rest on", by crate; a crate that it does not name has none."""
     section = (ROOT / "docs/STATEMENTS.md").read_text().split("## What the proofs rest on\n")[1].split("\n## ")[0]
     rows = re.findall(r"(?m)^\| `(\w+)` \| (\d+) \| (.*) \|$", section)
-    return {crate: (int(count), sorted(re.findall(r"\w+::\w+", which))) for crate, count, which in rows}
+    return {crate: (int(count), sorted(re.findall(r"\w+(?:::\w+)+", which))) for crate, count, which in rows}
 
 
 def told(crate):

@@ -5,7 +5,7 @@ ghost use lib.ListN.{length};
 ghost use Rattle.written.specs.Limits.{narrow};
 ghost use Rattle.written.specs.Program.{printed, reportSize};
 ghost use Rattle.reports.specs.Pages.{page, put};
-ghost use Rattle.alone.specs.Seeing.{CanSee, Within, Shows};
+ghost use Rattle.alone.specs.Seeing.{endTold, CanSee, shownOf, Within};
 
 // What is printed stands first in `out`.
 pub fn run_alone(input: &[u8], out: &mut [u8]) -> usize
@@ -22,7 +22,7 @@ pub fn run_alone(input: &[u8], out: &mut [u8]) -> usize
     let mut breaks = [0u16; 2048];
     let mut uncovered = [0u16; 8192];
     let mut places = [0u16; 8192];
-    running::run_sheet(
+    let answer = running::run_sheet(
         input,
         &mut names,
         &mut values,
@@ -35,13 +35,29 @@ pub fn run_alone(input: &[u8], out: &mut [u8]) -> usize
         &mut uncovered,
         &mut places,
         out,
-    )
+    );
+    answer.length
+}
+
+// Whether what `read` answered last tells the input's end: more than 0 goes on, and less is a failure.
+fn is_end(last: isize) -> bool
+    ensures { λ r. ⌜ r ≡ endTold last ⌝ }
+{
+    last == 0
 }
 
 // The same of the bytes that were read into a buffer. It has room for one more than an input may have, so that a longer one is noticed.
-pub fn run_read(buffer: &[u8], read: usize, out: &mut [u8]) -> usize
+// Nothing is shown of an input that was not read to its end.
+pub fn run_read(buffer: &[u8], read: usize, last: isize, out: &mut [u8]) -> usize
     requires { ⌜ CanSee narrow read (now buffer) (now out) ⌝ }
-    ensures { λ r. ⌜ Shows narrow read (now (buffer .entry)) r (now (out .entry)) (now (out .exit)) ⌝ }
+    ensures { λ r. ⌜ (page r (now (out .exit)) ≡ put (shownOf narrow read last (now (buffer .entry))) (page 0 (now (out .entry))))
+        × Within r (now (out .exit)) ⌝ }
 {
-    run_alone(&buffer[..read], out)
+    if 65536 < read {
+        return run_alone(&buffer[..read], out);
+    }
+    if is_end(last) {
+        return run_alone(&buffer[..read], out);
+    }
+    0
 }
