@@ -37,7 +37,7 @@ pub sheet-settled : Public sheet.ended (λ M. sheet.clauses)
 sheet-settled M 𝓤 H A mem run κs a g = record { asks-nothing = refl; one-outcome = λ x y. both 𝓤 (λ p q. same (meet p q) refl) }
 
 pub run-sheet-settled : Public run-sheet.ended (λ M. run-sheet.clauses)
-run-sheet-settled M 𝓤 H A mem run κs a g = record { asks-nothing = refl; one-outcome = λ x y. both 𝓤 (λ p q. let e = meet p q in same (ap (λ r. r .length) e) (ap (λ (r : Ran). (tt, ten (r .tables) (r .buffer, tt))) e)) }
+run-sheet-settled M 𝓤 H A mem run κs a g = record { asks-nothing = refl; one-outcome = λ x y. both 𝓤 (λ p q. let e = meet p q in same (ap (λ (r : Ran). r .answer) e) (ap (λ (r : Ran). (tt, ten (r .tables) (r .buffer, tt))) e)) }
 
 pub ngi-draw-settled : Public ngi-draw.ended (λ M. ngi-draw.clauses)
 ngi-draw-settled M 𝓤 H A mem run κs a g = record { asks-nothing = refl; one-outcome = λ x y. both 𝓤 (λ p q. same (meet p q) refl) }
@@ -58,4 +58,4 @@ pub ngi-flip-settled : Public ngi-flip.ended (λ M. ngi-flip.clauses)
 ngi-flip-settled M 𝓤 H A mem run κs a g = record { asks-nothing = refl; one-outcome = λ x y. both 𝓤 (λ p q. same (meet (p .0) (q .0)) (ap (λ t. (tt, (tt, (tt, (tt, (tt, five t tt)))))) (meet (p .1) (q .1)))) }
 
 pub ngi-run-settled : Public ngi-run.ended (λ M. ngi-run.clauses)
-ngi-run-settled M 𝓤 H A mem run κs a g = record { asks-nothing = refl; one-outcome = λ x y. both 𝓤 (λ p q. let e = meet p q in same (ap (λ r. r .length) e) (ap (λ (r : Ran). (tt, ten (r .tables) (r .buffer, tt))) e)) }
+ngi-run-settled M 𝓤 H A mem run κs a g = record { asks-nothing = refl; one-outcome = λ x y. both 𝓤 (λ p q. let e = meet p q in same (ap (λ (r : Ran). r .answer) e) (ap (λ (r : Ran). (tt, ten (r .tables) (r .buffer, tt))) e)) }

@@ -35,6 +35,7 @@ use Rattle.reports.proofs.refusal as refusal
 use Rattle.reports.proofs.report as report
 use Rattle.solving.proofs.read_on as read-on
 use Rattle.alone.proofs.run_alone as run-alone
+use Rattle.alone.proofs.run_read as run-read
 
 pub true-count-settled : Public true-count.ended (λ M. true-count.clauses)
 true-count-settled M 𝓤 H A mem run κs a g = record { asks-nothing = refl; one-outcome = λ x y. both 𝓤 (λ p q. same (meet p q) refl) }
@@ -109,7 +110,10 @@ pub report-settled : Inner report.ended (λ M. report.clauses)
 report-settled M 𝓤 H A mem run κs a g = record { one-outcome = λ x y. all-three 𝓤 (λ r p q. let e = meet p q in same (ap (λ s. s .at) e) (ap (λ (s : Page). (s .buffer, (tt, (tt, (tt, tt))))) e)) }
 
 pub read-on-settled : Inner read-on.ended (λ M. read-on.clauses)
-read-on-settled M 𝓤 H A mem run κs a g = record { one-outcome = λ x y. all-three 𝓤 (λ r p q. let e = meet p q in same (ap (λ w. w .length) e) (ap (λ (w : Ran). (tt, (tt, ten (w .tables) (w .buffer, tt)))) e)) }
+read-on-settled M 𝓤 H A mem run κs a g = record { one-outcome = λ x y. all-three 𝓤 (λ r p q. let e = meet p q in same (ap (λ (w : Ran). w .answer .length) e) (ap (λ (w : Ran). (tt, (tt, ten (w .tables) (w .buffer, tt)))) e)) }
 
 pub run-alone-settled : Inner run-alone.ended (λ M. run-alone.clauses)
 run-alone-settled M 𝓤 H A mem run κs a g = record { one-outcome = λ x y. all-three 𝓤 (λ r p q. let e = meet (p .0) (q .0) in same (ap (λ s. s .at) e) (ap (λ (s : Page). (tt, (s .buffer, tt))) e)) }
+
+pub run-read-settled : Inner run-read.ended (λ M. run-read.clauses)
+run-read-settled M 𝓤 H A mem run κs a g = record { one-outcome = λ x y. all-three 𝓤 (λ r p q. let e = meet (p .0) (q .0) in same (ap (λ s. s .at) e) (ap (λ (s : Page). (tt, (tt, (tt, (s .buffer, tt))))) e)) }

@@ -21,11 +21,16 @@ use Rattle.scan.proofs.Cursor.pass as pass
 use Rattle.scan.proofs.scan_at as scan-at
 use Rattle.scan.proofs.cut_off as cut-off
 use Rattle.scan.proofs.line_end as line-end
+use Rattle.scan.proofs.in_numbers as in-numbers
 use Rattle.reader.proofs.new as reader-new
 use Rattle.reader.proofs.next as reader-next
 use Rattle.reader.proofs.pass as reader-pass
 use Rattle.reader.proofs.take as reader-take
 use Rattle.reader.proofs.token_at as token-at
+use Rattle.reader.proofs.reader_token as reader-token
+use Rattle.reader.proofs.reader_line_end as reader-line-end
+use Rattle.reader.proofs.cursor_token as cursor-token
+use Rattle.reader.proofs.cursor_pass as cursor-pass
 use Rattle.reasons.proofs.number_of as number-of
 
 pub stepped-settled : Public stepped.ended (λ M. stepped.clauses)
@@ -85,6 +90,9 @@ cut-off-settled M 𝓤 H A mem run κs a g = record { asks-nothing = refl; one-o
 pub line-end-settled : Public line-end.ended (λ M. line-end.clauses)
 line-end-settled M 𝓤 H A mem run κs a g = record { asks-nothing = refl; one-outcome = λ x y. both 𝓤 (λ p q. same (meet p q) refl) }
 
+pub in-numbers-settled : Public in-numbers.ended (λ M. in-numbers.clauses)
+in-numbers-settled M 𝓤 H A mem run κs a g = record { asks-nothing = refl; one-outcome = λ x y. both 𝓤 (λ p q. same (meet p q) refl) }
+
 pub reader-new-settled : Public reader-new.ended (λ M. reader-new.clauses)
 reader-new-settled M 𝓤 H A mem run κs a g = record { asks-nothing = refl; one-outcome = λ x y. both 𝓤 (λ p q. same (λ i. record { text = meet (p .0) (q .0) i; at = meet (p .1) (q .1) i; line = meet (p .2) (q .2) i }) refl) }
 
@@ -99,6 +107,18 @@ reader-take-settled M 𝓤 H A mem run κs a g = record { asks-nothing = refl; o
 
 pub token-at-settled : Public token-at.ended (λ M. token-at.clauses)
 token-at-settled M 𝓤 H A mem run κs a g = record { asks-nothing = refl; one-outcome = λ x y. both 𝓤 (λ p q. same (meet p q) refl) }
+
+pub reader-token-settled : Public reader-token.ended (λ M. reader-token.clauses)
+reader-token-settled M 𝓤 H A mem run κs a g = record { asks-nothing = refl; one-outcome = λ x y. both 𝓤 (λ p q. same (meet p q) refl) }
+
+pub reader-line-end-settled : Public reader-line-end.ended (λ M. reader-line-end.clauses)
+reader-line-end-settled M 𝓤 H A mem run κs a g = record { asks-nothing = refl; one-outcome = λ x y. both 𝓤 (λ p q. same (meet p q) refl) }
+
+pub cursor-token-settled : Public cursor-token.ended (λ M. cursor-token.clauses)
+cursor-token-settled M 𝓤 H A mem run κs a g = record { asks-nothing = refl; one-outcome = λ x y. both 𝓤 (λ p q. same (meet p q) refl) }
+
+pub cursor-pass-settled : Public cursor-pass.ended (λ M. cursor-pass.clauses)
+cursor-pass-settled M 𝓤 H A mem run κs a g = record { asks-nothing = refl; one-outcome = λ x y. both 𝓤 (λ p q. same (meet p q) refl) }
 
 pub number-of-settled : Public number-of.ended (λ M. number-of.clauses)
 number-of-settled M 𝓤 H A mem run κs a g = record { asks-nothing = refl; one-outcome = λ x y. both 𝓤 (λ p q. same (meet p q) refl) }

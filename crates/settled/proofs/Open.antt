@@ -1,10 +1,9 @@
 -- The statements that are no equation, or leave something open. Assumes nothing.
-use Prim.Native.Nat.{ℕ, _≤_}
+use Prim.Native.Nat.{ℕ}
 use mathlib.Core.Path.{_≡_, refl, sym, ap, _∙_}
 use mathlib.Core.List.{List}
 use mathlib.Core.Bool.{Bool, true≢false}
-use lib.ListN.{length, take}
-use lib.Seq.{length-take-le, take-all}
+use lib.ListN.{take}
 use native.Mathlib.Omega.{arith}
 use denote.Ref.{now}
 use Rattle.written.specs.Lists.{placeOf}
@@ -12,7 +11,6 @@ use Rattle.written.specs.Limits.{Limits}
 use Rattle.written.specs.Clauses.{literalOf}
 use Rattle.laws.proofs.Basics.{by-lt}
 use Rattle.machine.specs.Slots.{Vacant}
-use Rattle.reports.specs.Pages.{Page}
 use Rattle.names.specs.declared.Found.{Found}
 use Rattle.names.specs.declared.Found.the-variants.{At, New}
 use Rattle.names.specs.Finding.{Finds}
@@ -27,11 +25,6 @@ use Rattle.names.proofs.find as find
 use Rattle.choosing.proofs.literal_in as literal-in
 use Rattle.stepping.proofs.one_walk as one-walk
 use Rattle.taking.proofs.take as taken
-use Rattle.alone.proofs.run_read as run-read
-
--- the bytes that were read are the first of themselves
-take-whole : (n : ℕ) (xs : List ℕ) → n ≤ length xs → take (length xs) (take n xs) ≡ take n xs
-take-whole n xs h = take-all (length xs) (take n xs) (omega (arith, length-take-le n xs h))
 
 -- a search has one answer: where the name first stands, or the first empty slot
 one-slot : {H : ℕ} {known slots : List ℕ} {name s u : ℕ} → Vacant H known slots name s → Vacant H known slots name u → s ≡ u
@@ -58,9 +51,6 @@ one-taken {names = names} {terms = terms} {literals = literals} {held = held} {n
 
 pub find-settled : Inner find.ended (λ M. find.clauses)
 find-settled M 𝓤 H A mem run κs a g = record { one-outcome = λ x y. all-three 𝓤 (λ r p q. same (one-found (take (a .1 .1 .0) (now (a .0))) (now (a .1 .0)) (a .1 .1 .1 .0) (x .result) (y .result) p q) refl) }
-
-pub run-read-settled : Inner run-read.ended (λ M. run-read.clauses)
-run-read-settled M 𝓤 H A mem run κs a g = record { one-outcome = λ x y. all-three 𝓤 (λ r p q. let e = meet (p .whole (take (a .1 .0) (now (a .0))) (take-whole (a .1 .0) (now (a .0)) (r .within))) (q .whole (take (a .1 .0) (now (a .0))) (take-whole (a .1 .0) (now (a .0)) (r .within))) in same (ap (λ s. s .at) e) (ap (λ (s : Page). (tt, (tt, (s .buffer, tt)))) e)) }
 
 -- what the part shows, not where it lies
 pub part-settled : InnerSeen part.ended (List ℕ) (λ κs a x. now (x .result)) (λ M. part.clauses)
