@@ -43,7 +43,7 @@ extern "C" {
 /* Why a call was refused. */
 enum {
     NGI_NO_REASON = 0,
-    NGI_TABLE_TOO_SHORT = 1,   /* a lent table is shorter than its full size */
+    NGI_TABLE_TOO_SHORT = 1,   /* a lent table, or the buffer lent to ngi_run, is shorter than its full size */
     NGI_TEXT_TOO_LONG = 2,     /* a text longer than NGI_TEXT */
     NGI_TEXT_CUT = 3,          /* a text that is not empty and does not end with byte 10 */
     NGI_BYTE_NOT_ALLOWED = 4,  /* a byte that may not stand there */
@@ -162,24 +162,31 @@ ngi_flip_answer ngi_flip(const uint16_t *list, size_t list_length,              
                          uint16_t *uncovered_list, size_t uncovered_list_length,             /* at least NGI_UNCOVERED_LIST_SIZE */
                          uint16_t *places, size_t places_length);                            /* at least NGI_PLACES_SIZE */
 
+/* The answer to a run. */
+typedef struct {
+    uint32_t result; /* 1 a report was written, which may tell of a refused input; 0 refused */
+    uint32_t reason; /* NGI_NO_REASON where a report was written, else NGI_TABLE_TOO_SHORT */
+    size_t length;   /* of the report, in bytes; 0 where it was refused */
+} ngi_run_answer;
+
 /*
- * Runs an order sheet: what the program prints for the input stands first in out, and its length, above 0, is returned; the rest of out is as
- * it was. The report ends with byte 10, and no byte 0 is put after it. Input over NGI_TEXT bytes and a refused text leave 0 in every table up
- * to its full size, a refused sheet leaves every table as it was, and a walk leaves its end. Where a table or out is shorter than its full
- * size, 0 is returned and nothing is written.
+ * Runs an order sheet: what the program prints for the input, the report, stands first in out; the rest of out is as it was. The report ends
+ * with byte 10, and no byte 0 is put after it. Where the input is refused, it tells the reason. Input over NGI_TEXT bytes and a refused text
+ * leave 0 in every table up to its full size, a refused sheet leaves every table as it was, and a walk leaves its end. Where a table or out is
+ * shorter than its full size, the call is refused for reason 1 and changes nothing.
  */
-size_t ngi_run(const uint8_t *input, size_t input_length,                    /* the four lines of a sheet, then clause text */
-               uint64_t *names, size_t names_length,                         /* at least NGI_NAMES_SIZE */
-               uint32_t *values, size_t values_length,                       /* at least NGI_VALUES_SIZE */
-               uint16_t *starts, size_t starts_length,                       /* at least NGI_STARTS_SIZE */
-               uint16_t *literals_table, size_t literals_table_length,       /* at least NGI_LITERALS_SIZE */
-               uint16_t *occurrence_starts, size_t occurrence_starts_length, /* at least NGI_OCCURRENCE_STARTS_SIZE */
-               uint16_t *occurrences, size_t occurrences_length,             /* at least NGI_OCCURRENCES_SIZE */
-               uint16_t *true_counts, size_t true_counts_length,             /* at least NGI_TRUE_COUNTS_SIZE */
-               uint16_t *break_counts, size_t break_counts_length,           /* at least NGI_BREAK_COUNTS_SIZE */
-               uint16_t *uncovered_list, size_t uncovered_list_length,       /* at least NGI_UNCOVERED_LIST_SIZE */
-               uint16_t *places, size_t places_length,                       /* at least NGI_PLACES_SIZE */
-               uint8_t *out, size_t out_length);                             /* at least NGI_OUT_SIZE */
+ngi_run_answer ngi_run(const uint8_t *input, size_t input_length,                    /* the four lines of a sheet, then clause text */
+                       uint64_t *names, size_t names_length,                         /* at least NGI_NAMES_SIZE */
+                       uint32_t *values, size_t values_length,                       /* at least NGI_VALUES_SIZE */
+                       uint16_t *starts, size_t starts_length,                       /* at least NGI_STARTS_SIZE */
+                       uint16_t *literals_table, size_t literals_table_length,       /* at least NGI_LITERALS_SIZE */
+                       uint16_t *occurrence_starts, size_t occurrence_starts_length, /* at least NGI_OCCURRENCE_STARTS_SIZE */
+                       uint16_t *occurrences, size_t occurrences_length,             /* at least NGI_OCCURRENCES_SIZE */
+                       uint16_t *true_counts, size_t true_counts_length,             /* at least NGI_TRUE_COUNTS_SIZE */
+                       uint16_t *break_counts, size_t break_counts_length,           /* at least NGI_BREAK_COUNTS_SIZE */
+                       uint16_t *uncovered_list, size_t uncovered_list_length,       /* at least NGI_UNCOVERED_LIST_SIZE */
+                       uint16_t *places, size_t places_length,                       /* at least NGI_PLACES_SIZE */
+                       uint8_t *out, size_t out_length);                             /* at least NGI_OUT_SIZE */
 
 #ifdef __cplusplus
 }

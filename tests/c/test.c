@@ -24,6 +24,15 @@ static uint8_t out[NGI_OUT_SIZE];
 #define TABLES NINE_TABLES, places, NGI_PLACES_SIZE
 #define SHORT_TABLES NINE_TABLES, places, NGI_PLACES_SIZE - 1
 
+/* The same one by one, and the buffer last, for what is looked at in all of them. */
+#define WHOLE(memory) {memory, sizeof(memory)}
+static const struct {
+    const void *memory;
+    size_t size;
+} lent[] = {WHOLE(names), WHOLE(values), WHOLE(starts), WHOLE(literals), WHOLE(occurrence_starts), WHOLE(occurrences),
+            WHOLE(true_counts), WHOLE(break_counts), WHOLE(uncovered_list), WHOLE(places), WHOLE(out)};
+enum { LENT = sizeof lent / sizeof lent[0], TABLE_COUNT = LENT - 1 };
+
 /* A string as bytes and their number, without the byte 0 at its end. */
 #define BYTES(string) (const uint8_t *)(string), sizeof(string) - 1
 
@@ -63,11 +72,26 @@ static int is_zero(const void *table, size_t size)
 
 static int all_are_zero(void)
 {
-    return is_zero(names, sizeof names) && is_zero(values, sizeof values) && is_zero(starts, sizeof starts) &&
-           is_zero(literals, sizeof literals) && is_zero(occurrence_starts, sizeof occurrence_starts) &&
-           is_zero(occurrences, sizeof occurrences) && is_zero(true_counts, sizeof true_counts) &&
-           is_zero(break_counts, sizeof break_counts) && is_zero(uncovered_list, sizeof uncovered_list) &&
-           is_zero(places, sizeof places);
+    for (int at = 0; at < TABLE_COUNT; at++)
+        if (!is_zero(lent[at].memory, lent[at].size))
+            return 0;
+    return 1;
+}
+
+static unsigned char kept[LENT][sizeof literals]; /* nothing that is lent is larger than the literals */
+
+static void keep_all(void)
+{
+    for (int at = 0; at < LENT; at++)
+        memcpy(kept[at], lent[at].memory, lent[at].size);
+}
+
+static int all_are_as_kept(void)
+{
+    for (int at = 0; at < LENT; at++)
+        if (memcmp(kept[at], lent[at].memory, lent[at].size) != 0)
+            return 0;
+    return 1;
 }
 
 /* --- the tests --- */
@@ -165,19 +189,25 @@ static void refused_flips(void)
     CHECK(ngi_flip(b_and_unknown, 1, COUNTS(r), SHORT_TABLES).reason == NGI_TABLE_TOO_SHORT);
 }
 
-/* Whether this is what stands first in out, whole. */
-static int printed(size_t length, const char *lines, size_t lines_length)
+static int is_refused(ngi_run_answer a)
 {
-    return length == lines_length && memcmp(out, lines, length) == 0;
+    return a.result == 0 && a.reason == NGI_TABLE_TOO_SHORT && a.length == 0;
+}
+
+/* Whether this is what stands first in out, whole. */
+static int printed(ngi_run_answer a, const char *lines, size_t lines_length)
+{
+    return a.result == 1 && a.reason == NGI_NO_REASON && a.length == lines_length && memcmp(out, lines, lines_length) == 0;
 }
 
 #define RUN(input) ngi_run(BYTES(input), TABLES, out, NGI_OUT_SIZE)
 #define PRINTS(input, lines) printed(RUN(input), lines, sizeof(lines) - 1)
 #define SHEET "seed=1\nflips=10\nwalks=1\nbias=400\n"
+#define FOUND "result=found\nwalks=1\nflips=1\nchosen=2\nanswer=a b\n" /* for the sheet and the text */
 
 static void running(void)
 {
-    CHECK(PRINTS(SHEET TEXT, "result=found\nwalks=1\nflips=1\nchosen=2\nanswer=a b\n"));
+    CHECK(PRINTS(SHEET TEXT, FOUND));
     CHECK(values[0] == 3);
     CHECK(PRINTS(SHEET "a\n~a\n", "result=gaveup\nwalks=1\nflips=10\nchosen=0\nanswer=~?\n"));
     CHECK(PRINTS("seed=0\n" TEXT, "result=refused\nreason=11\nline=1\n"));
@@ -187,14 +217,22 @@ static void running(void)
     CHECK(all_are_zero());
 }
 
-static void refused_runs(void)
+static void rest_of_the_buffer(void)
 {
     memset(out, '-', sizeof out);
-    CHECK(ngi_run(BYTES(SHEET TEXT), SHORT_TABLES, out, NGI_OUT_SIZE) == 0);
-    CHECK(ngi_run(BYTES(SHEET TEXT), TABLES, out, NGI_OUT_SIZE - 1) == 0);
-    CHECK(out[0] == '-' && all_are_zero());
-    size_t length = RUN(SHEET TEXT);
-    CHECK(length > 0 && out[length - 1] == '\n' && out[length] == '-' && out[NGI_OUT_SIZE - 1] == '-');
+    CHECK(PRINTS(SHEET TEXT, FOUND));
+    CHECK(out[sizeof(FOUND) - 1] == '-' && out[NGI_OUT_SIZE - 1] == '-'); /* as they were */
+}
+
+static void refused_runs(void)
+{
+    RUN(SHEET TEXT);
+    keep_all();
+    /* another text, which would leave other tables and another report */
+    CHECK(is_refused(ngi_run(BYTES(SHEET "c\n~c\n"), SHORT_TABLES, out, NGI_OUT_SIZE)));
+    CHECK(all_are_as_kept());
+    CHECK(is_refused(ngi_run(BYTES(SHEET "c\n~c\n"), TABLES, out, NGI_OUT_SIZE - 1)));
+    CHECK(all_are_as_kept());
 }
 
 int main(void)
@@ -208,6 +246,7 @@ int main(void)
     flipping();
     refused_flips();
     running();
+    rest_of_the_buffer();
     refused_runs();
     printf("%u passed, %u failed\n", passed, failed);
     return failed != 0;
