@@ -29,7 +29,7 @@ use Rattle.written.specs.Outcomes.{Values, readingOf, walkOf, flipsOf, r
 use Rattle.written.specs.Program.{runOf}
 use Rattle.written.specs.Computing.{computing, Example, _tells_, Tells}
 
--- what a call answers and leaves: of a run, its length, the tables and the buffer; of a reader's steps, their numbers
+-- what a call answers and leaves: of a run, its three numbers, the tables and the buffer; of a reader's steps, their numbers
 pub record Seen : Type 0 where
   pub numbers : List ℕ
   pub tables : Tables
@@ -51,8 +51,8 @@ seen r e l w f n t =
 abbrev shown : Values → Tables → Seen
 shown v t = seen (v .result) (v .reason) (v .line) (v .walks) (v .flips) (v .counts) t
 
-abbrev ran : ℕ → Tables → List ℕ → Seen
-ran n t b = record { numbers = n ∷ []; tables = t; buffer = b }
+abbrev ran : ℕ → ℕ → ℕ → Tables → List ℕ → Seen
+ran r e n t b = record { numbers = r ∷ e ∷ n ∷ []; tables = t; buffer = b }
 
 abbrev reading : List ℕ → Tables → Seen
 reading x t = shown (readValues (readingOf limits x t .answer)) (readingOf limits x t .tables)
@@ -64,7 +64,9 @@ abbrev flipping : List ℕ → Counts → Tables → Seen
 flipping ts n t = shown (flipValues (flipsOf limits ts n t .answer)) (flipsOf limits ts n t .tables)
 
 abbrev running : List ℕ → Tables → List ℕ → Seen
-running x t b = ran (runOf limits x t b .length) (runOf limits x t b .tables) (runOf limits x t b .buffer)
+running x t b =
+    ran (runOf limits x t b .answer .result) (runOf limits x t b .answer .reason) (runOf limits x t b .answer .length)
+        (runOf limits x t b .tables) (runOf limits x t b .buffer)
 
 abbrev stepped : List ℕ → Seen
 stepped ns = record { numbers = ns; tables = lent [] [] [] [] [] [] [] [] [] []; buffer = [] }

@@ -103,12 +103,13 @@ fn running(random: &mut Random) -> Option<String> {
         return None;
     }
     let (mut after, mut out) = (case.tables.clone(), case.out.clone());
-    let length = run_on(&LIMITS, &case.input, &mut after, &mut out);
+    let told = run_on(&LIMITS, &case.input, &mut after, &mut out);
     Some(format!(
-        "(running {} {} {}) tells (ran {length} {} {})",
+        "(running {} {} {}) tells (ran {} {} {})",
         list(&case.input),
         tables(&case.tables),
         list(&case.out),
+        spaced(&[told.result, told.reason, told.length]),
         tables(&after),
         list(&out),
     ))

@@ -19,7 +19,7 @@ pub mod walk;
 
 pub use limits::Limits;
 pub use order::Order;
-pub use program::{run, run_on};
+pub use program::{run, run_on, RunAnswer};
 pub use reader::Reader;
 pub use state::State;
 pub use tables::{Counts, Tables};

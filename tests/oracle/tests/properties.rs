@@ -452,14 +452,17 @@ fn the_program_leaves_output_and_tables_as_said() {
             mut out,
         } = run_case(limits, random);
         let (tables_before, out_before) = (tables.clone(), out.clone());
-        let length = run_on(limits, &input, &mut tables, &mut out);
+        let told = run_on(limits, &input, &mut tables, &mut out);
         assert_excess_untouched(limits, &tables_before, &tables);
-        assert!(out[length..] == out_before[length..]);
         if !tables_before.reach_full_size(limits) || out.len() < limits.output_size() {
-            assert!(length == 0 && tables == tables_before);
+            assert_eq!((told.result, told.reason, told.length), (0, 1, 0));
+            assert!(tables == tables_before && out == out_before);
             return;
         }
+        assert_eq!((told.result, told.reason), (1, 0));
+        let length = told.length as usize;
         assert!(out[..length] == run(limits, &input));
+        assert!(out[length..] == out_before[length..]);
         if input.len() > limits.text {
             assert_eq!(out[..length], *refusal(2, 0).as_bytes());
             assert!(within_full_size(limits, &tables) == Tables::zeros(limits));
@@ -489,7 +492,8 @@ fn the_longest_output_fits() {
     let text = format!("{} ~\n~n0000000\n", names.join(" "));
     let mut out = vec![0; NARROW.output_size()];
     let input = [GOOD_SHEET.as_bytes(), text.as_bytes()].concat();
-    let length = run_on(&NARROW, &input, &mut Tables::zeros(&NARROW), &mut out);
+    let told = run_on(&NARROW, &input, &mut Tables::zeros(&NARROW), &mut out);
+    let length = told.length as usize;
     assert!(out[..length].starts_with(b"result=found\n"));
     assert!(length > 9 * NARROW.terms);
 }

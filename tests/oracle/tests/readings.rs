@@ -1,4 +1,4 @@
-//! One test for each open point of the readings, 1 to 30.
+//! One test for each open point of the readings, 1 to 31.
 
 mod common;
 
@@ -9,7 +9,7 @@ use oracle::flips::flip;
 use oracle::reader::{pack, Reader, Told};
 use oracle::sheet::read_sheet;
 use oracle::walk::walk;
-use oracle::{run, Order, Tables};
+use oracle::{run, run_on, Order, Tables};
 
 /// All that a reader tells, up to the end or a fault.
 fn told(text: impl AsRef<[u8]>) -> Vec<(Told, u64)> {
@@ -488,4 +488,33 @@ fn point_30_the_result_line_decides() {
     let lines = printed(GOOD_SHEET, "~?\n");
     assert!(lines.starts_with("result=found\n"));
     assert!(lines.ends_with("chosen=0\nanswer=~?\n"));
+}
+
+/// Ten tables and an output, all of full size and not 0.
+fn lent_to_a_run() -> (Tables, Vec<u8>) {
+    (full_of(&NARROW, 7), vec![b'-'; NARROW.output_size()])
+}
+
+/// Runs a good input over these: the three numbers of the answer, and what is left.
+fn run_over((mut tables, mut out): (Tables, Vec<u8>)) -> ([u64; 3], (Tables, Vec<u8>)) {
+    let input = [GOOD_SHEET, "a\n"].concat();
+    let answer = run_on(&NARROW, input.as_bytes(), &mut tables, &mut out);
+    let numbers = [answer.result, answer.reason, answer.length];
+    (numbers, (tables, out))
+}
+
+#[test]
+fn point_31_a_short_table_and_a_short_output_are_reason_1() {
+    let mut short = vec![lent_to_a_run(); 11];
+    for (table, (tables, _)) in short[..10].iter_mut().enumerate() {
+        tables.all_mut()[table].pop();
+    }
+    short[10].1.pop();
+    for lent in short {
+        assert!(run_over(lent.clone()) == ([0, 1, 0], lent));
+    }
+    let report = printed(GOOD_SHEET, "a\n");
+    let (numbers, (_, out)) = run_over(lent_to_a_run());
+    assert_eq!(numbers, [1, 0, report.len() as u64]);
+    assert!(out.starts_with(report.as_bytes()));
 }

@@ -29,7 +29,7 @@ pub fn read_narrow(text: impl AsRef<[u8]>) -> (ReadAnswer, Tables) {
 }
 
 /// Full-size tables with this number everywhere.
-fn full_of(limits: &Limits, number: u64) -> Tables {
+pub fn full_of(limits: &Limits, number: u64) -> Tables {
     let mut tables = Tables::zeros(limits);
     for table in tables.all_mut() {
         table.fill(number);
