@@ -10,13 +10,13 @@
  *   5 draw    a state                                                    the three numbers of ngi_drawn
  *   6 choice  a state, how many to choose among                          the same
  *   7 heads   a state, a bias                                            the same
- *   8 run     the lengths of input and output, then the bytes of each    status, the length that ngi_run gave, input, output, ten tables
+ *   8 run     the lengths of input and output, then the bytes of each    status, the three numbers of ngi_run_answer, input, output, ten tables
  *   9 follow  0 for the reader or 1 for its cursor, the lengths of text  status, a row of seven numbers for each step, text
  *             and script, place, line, then the bytes of each
  *
  * A script's byte is 0 to pass and 1 to tell the next item. The place and the line where following begins, and the rows, are 64 bits wide.
  *
- * The length that ngi_run gave is 64 bits wide. Guards stand before and after all that is lent. The status is 0 where every guard is as it was,
+ * The length in ngi_run_answer is 64 bits wide. Guards stand before and after all that is lent. The status is 0 where every guard is as it was,
  * else one more than the number of the first table that has lost one, or 11 for the list, the text or the input, or 12 for the output. The end
  * of the input ends the program.
  */
@@ -227,8 +227,8 @@ static void run(void)
     renew(&output, take_number());
     take_entries(&input);
     take_entries(&output);
-    uint64_t length = ngi_run(LENT(input), LENT_TABLES, LENT(output));
-    give_answer(&length, sizeof length, with_input_and_output);
+    ngi_run_answer answer = ngi_run(LENT(input), LENT_TABLES, LENT(output));
+    give_answer(&answer, sizeof answer, with_input_and_output);
 }
 
 static reader_told told(int by_cursor, size_t at, size_t line)

@@ -11,7 +11,7 @@ use oracle::kinds;
 use oracle::reader::{ReaderStep, Row};
 use oracle::reading::ReadAnswer;
 use oracle::walk::WalkAnswer;
-use oracle::{Counts, Order, Tables};
+use oracle::{Counts, Order, RunAnswer, Tables};
 
 use crate::differences::TABLE_NAMES;
 use crate::watch::Watched;
@@ -130,14 +130,14 @@ impl Host {
         self.call(&request, &[], Host::walk_answer)
     }
 
-    /// `ngi_run` on the tables that are lent; the answer is the length it gave.
-    pub fn run(&mut self, input: &[u8], output: &[u8]) -> Result<Called<u64>, Fault> {
+    /// `ngi_run` on the tables that are lent.
+    pub fn run(&mut self, input: &[u8], output: &[u8]) -> Result<Called<RunAnswer>, Fault> {
         let mut request = request(RUN, &[input.len() as u64, output.len() as u64]);
         request.extend(input);
         request.extend(output);
         let input = ("input", input.len(), BYTE_WIDTH);
         let output = ("output", output.len(), BYTE_WIDTH);
-        self.call(&request, &[input, output], Host::length)
+        self.call(&request, &[input, output], Host::run_answer)
     }
 
     /// Sends a request, then takes its answer and all that was lent.
@@ -239,6 +239,14 @@ impl Host {
             walks: self.number()?,
             flips: self.number()?,
             counts: self.counts()?,
+        })
+    }
+
+    fn run_answer(&mut self) -> Result<RunAnswer, Fault> {
+        Ok(RunAnswer {
+            result: self.number()?,
+            reason: self.number()?,
+            length: self.length()?,
         })
     }
 

@@ -7,7 +7,7 @@ use oracle::generate::Random;
 use oracle::reading::{read, ReadAnswer};
 use oracle::reasons::{NONE, TABLE_TOO_SHORT};
 use oracle::walk::{walk_telling, Step, WalkAnswer};
-use oracle::{run_on, Counts, Order, Tables};
+use oracle::{run_on, Counts, Order, RunAnswer, Tables};
 
 use crate::differences::{difference, differences};
 use crate::host::{Called, Fault, Host};
@@ -87,34 +87,49 @@ impl Sides {
         answer
     }
 
-    /// Gives an input and an output to both; they must print the same and leave the same. Tells what is printed.
+    /// Gives an input and an output that both must run; they must print the same and leave the same. Tells what is printed.
     pub fn run(&mut self, input: &[u8], output: &mut [u8]) -> Vec<u8> {
+        let ran = self.ran_the_same(input, output);
+        let told = (ran.answer.result, ran.answer.reason);
+        assert_eq!(told, (1, NONE), "{}: {}", self.case, shown(input));
+        ran.printed
+    }
+
+    /// Gives an input and an output to both; they must answer the same and leave the same.
+    fn ran_the_same(&mut self, input: &[u8], output: &mut [u8]) -> Ran {
         let ran = self.ran(input, output);
         let (expected, got) = (ran.printed.escape_ascii(), ran.got.escape_ascii());
-        let report = ran.report;
+        let report = &ran.report;
         assert!(report.is_empty(), "{report}\n  \"{expected}\"\n  \"{got}\"");
-        ran.printed
+        ran
     }
 
     /// The same, where the two may differ.
     pub fn ran(&mut self, input: &[u8], output: &mut [u8]) -> Ran {
         let called = self.host.run(input, output);
-        let length = run_on(&NARROW, input, &mut self.tables, output);
+        let answer = run_on(&NARROW, input, &mut self.tables, output);
         let beside = [input, output].map(|bytes| entries_of(bytes, 1));
         let beside = beside.each_ref().map(Vec::as_slice);
-        let report = self.report(shown(input), &beside, &(length as u64), &called);
+        let report = self.report(shown(input), &beside, &answer, &called);
         self.counts = counts_in(&self.tables);
         Ran {
-            printed: output[..length].to_vec(),
+            answer,
+            printed: output[..answer.length as usize].to_vec(),
             got: called.map_or(Vec::new(), |found| printed_by(&found)),
             report,
         }
     }
 
-    /// Gives an input that both must not run, since a table or the output is too short: nothing is printed, nothing changed.
+    /// Gives an input that both must not run, since a table or the output is too short: reason 1, with nothing printed and nothing changed.
     pub fn refuse_run(&mut self, input: &[u8], output: &mut [u8]) {
         let before = (self.tables.clone(), output.to_vec());
-        assert!(self.run(input, output).is_empty(), "{}", self.case);
+        let expected = RunAnswer {
+            result: 0,
+            reason: TABLE_TOO_SHORT,
+            length: 0,
+        };
+        let answer = self.ran_the_same(input, output).answer;
+        assert_eq!(answer, expected, "{}", self.case);
         let same = before == (self.tables.clone(), output.to_vec());
         assert!(same, "{}", self.case);
     }
@@ -228,6 +243,7 @@ impl Sides {
 
 /// A run on both sides.
 pub struct Ran {
+    pub answer: RunAnswer,
     /// What is printed.
     pub printed: Vec<u8>,
     /// What the library printed; nothing where its call was not answered.
@@ -237,9 +253,9 @@ pub struct Ran {
 }
 
 /// As many bytes of the output as the library says, if there are so many.
-fn printed_by(found: &Called<u64>) -> Vec<u8> {
+fn printed_by(found: &Called<RunAnswer>) -> Vec<u8> {
     let output = found.beside.last().map_or(&[][..], |(_, output)| output);
-    let length = output.len().min(found.answer as usize);
+    let length = output.len().min(found.answer.length as usize);
     bytes_of(&output[..length])
 }
 

@@ -33,14 +33,14 @@ fn refuse_all(sides: &mut Sides, output: &mut [u8], random: &mut Random) {
 }
 
 #[test]
-fn a_table_too_short_prints_nothing_and_changes_nothing() {
+fn a_table_too_short_is_reason_1_and_changes_nothing() {
     for_each_shorter(lent_rubbish, |sides, random| {
         refuse_all(sides, &mut rubbish_output(random), random);
     });
 }
 
 #[test]
-fn an_output_too_short_prints_nothing_and_changes_nothing() {
+fn point_31_an_output_too_short_is_reason_1_and_changes_nothing() {
     let mut sides = Sides::start();
     let random = &mut Random::new(0);
     let full = NARROW.output_size();
