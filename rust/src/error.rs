@@ -21,7 +21,8 @@ pub struct Error {
 /// The reasons, in the order of their numbers; each is followed by its words.
 #[derive(Clone, Copy, Debug, PartialEq, Eq, Hash)]
 pub enum Reason {
-    /// 1: a lent table is shorter than its full size. Here none is, so no call gives it.
+    /// 1: a lent table, or the buffer of a run, is shorter than its full size. Here none is, so no call
+    /// gives it.
     ShortTable = 1,
     /// 2: the text is longer than 65,536 bytes.
     LongText = 2,
@@ -83,7 +84,7 @@ impl Reason {
     /// ```
     pub fn words(self) -> &'static str {
         match self {
-            Reason::ShortTable => "a lent table is shorter than its full size",
+            Reason::ShortTable => "a lent table or buffer is shorter than its full size",
             Reason::LongText => "the text is longer than 65,536 bytes",
             Reason::OpenEnd => "the text is not empty and does not end with byte 10",
             Reason::BadByte => "a byte may not stand there",

@@ -9,7 +9,8 @@ const LITERALS: usize = 16_384;
 /// `NGI_OUT_SIZE`: no report is longer.
 pub const OUT_SIZE: usize = 10 * TERMS + 64;
 
-/// The ten tables. Each has its full size by its type, so no call is refused for a short one.
+/// The ten tables. Each has its full size by its type, as the buffer of a run has, so no call is refused
+/// for a short one.
 #[derive(Clone, PartialEq, Eq)]
 pub struct Lent {
     pub names: [u64; TERMS],
@@ -76,6 +77,14 @@ pub struct FlipAnswer {
     pub counts: Counts,
 }
 
+/// `ngi_run_answer`.
+#[repr(C)]
+pub struct RunAnswer {
+    pub result: u32,
+    pub reason: u32,
+    pub length: usize,
+}
+
 #[rustfmt::skip] // as the header is laid out
 extern "C" {
     fn ngi_draw(state: u32) -> Drawn;
@@ -140,7 +149,7 @@ extern "C" {
         uncovered_list: *mut u16, uncovered_list_length: usize,
         places: *mut u16, places_length: usize,
         out: *mut u8, out_length: usize,
-    ) -> usize;
+    ) -> RunAnswer;
 }
 
 /// Calls with some arguments, then the ten tables, then some more.
@@ -206,8 +215,8 @@ pub fn flip(list: &[u16], counts: Counts, lent: &mut Lent) -> FlipAnswer {
     }
 }
 
-/// The length of what is printed, which stands first in `out`.
+/// What is printed stands first in `out`.
 #[rustfmt::skip]
-pub fn run(input: &[u8], lent: &mut Lent, out: &mut [u8; OUT_SIZE]) -> usize {
+pub fn run(input: &[u8], lent: &mut Lent, out: &mut [u8; OUT_SIZE]) -> RunAnswer {
     unsafe { call!(ngi_run, [input.as_ptr(), input.len()], lent, [out.as_mut_ptr(), out.len()]) }
 }

@@ -10,7 +10,7 @@ use ngiyarumba::{run, Generator, Outcome};
 
 #[test]
 fn the_printed_example_is_printed() {
-    let printed = run(format!("{SHEET}{TEXT}"));
+    let printed = run(format!("{SHEET}{TEXT}")).unwrap();
     assert_eq!(
         printed,
         "result=found\nwalks=1\nflips=1\nchosen=2\nanswer=a b\n"
@@ -93,7 +93,7 @@ fn every_example_sheet_prints_what_stands_beside_it() {
         let expected = fs::read_to_string(sheet.with_extension("out")).unwrap();
         assert_eq!(
             run(fs::read(&sheet).unwrap()),
-            expected,
+            Ok(expected),
             "{}",
             sheet.display()
         );

@@ -6,11 +6,12 @@ const HEADER: &str = include_str!("../../include/ngiyarumba.h");
 const SYS: &str = include_str!("../src/sys.rs");
 
 /// The answers, by their names in the header and here.
-const ANSWERS: [(&str, &str); 4] = [
+const ANSWERS: [(&str, &str); 5] = [
     ("ngi_drawn", "Drawn"),
     ("ngi_read_answer", "ReadAnswer"),
     ("ngi_walk_answer", "WalkAnswer"),
     ("ngi_flip_answer", "FlipAnswer"),
+    ("ngi_run_answer", "RunAnswer"),
 ];
 
 /// What a call takes and gives, in the words of Rust.
@@ -85,11 +86,20 @@ fn fields_of_the_header(answer: &str) -> Vec<String> {
     let plain = without_comments(HEADER);
     let (before, _) = plain.split_once(&format!("}} {answer};")).unwrap();
     let (_, fields) = before.rsplit_once("typedef struct {").unwrap();
-    let lines = fields
-        .split(';')
-        .map(|line| line.trim().replace("uint32_t", ""));
-    let names = lines.flat_map(|line| listed(&line).map(str::to_string).collect::<Vec<_>>());
-    names.collect()
+    let lines = fields.split(';').map(str::trim);
+    lines
+        .filter(|line| !line.is_empty())
+        .flat_map(fields_in_rust)
+        .collect()
+}
+
+/// One type, then the names of the fields that have it.
+fn fields_in_rust(line: &str) -> Vec<String> {
+    let (kind, names) = line.split_once(' ').expect("a type and names");
+    let kind = in_rust(kind);
+    listed(names)
+        .map(|name| format!("{name}: {kind}"))
+        .collect()
 }
 
 fn fields_declared_here(answer: &str) -> Vec<String> {
@@ -99,14 +109,8 @@ fn fields_declared_here(answer: &str) -> Vec<String> {
         "counts: Counts",
         "terms: u32, clauses: u32, literals: u32, uncovered: u32",
     );
-    let names = listed(&fields).map(|field| {
-        field
-            .trim_start_matches("pub ")
-            .strip_suffix(": u32")
-            .unwrap()
-            .to_string()
-    });
-    names.collect()
+    let plain = listed(&fields).map(|field| field.trim_start_matches("pub "));
+    plain.map(str::to_string).collect()
 }
 
 #[test]

@@ -82,7 +82,7 @@ fn reason_9_no_clause() {
 #[test]
 fn reason_10_the_form_of_the_sheet() {
     for (sheet, line) in [("", 1), ("seed=1\nflips=10\nwalks=01\nbias=400\n", 3)] {
-        let printed = run(format!("{sheet}{TEXT}"));
+        let printed = run(format!("{sheet}{TEXT}")).unwrap();
         assert_eq!(printed, format!("result=refused\nreason=10\nline={line}\n"));
     }
 }
@@ -156,7 +156,7 @@ fn the_program_prints_the_same_reasons() {
         let error = refused(text);
         let (reason, line) = (error.reason().number(), error.line().unwrap_or(0));
         let lines = format!("result=refused\nreason={reason}\nline={line}\n");
-        assert_eq!(run(format!("{SHEET}{text}")), lines);
+        assert_eq!(run(format!("{SHEET}{text}")), Ok(lines));
     }
 }
 
