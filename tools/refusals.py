@@ -1,7 +1,7 @@
 #!/usr/bin/env python3
 """refusals.py: every must-fail edit was refused at a fact, by the prover's own words in target/must-fail, and not for its shape. Last line: 'N refusals'.
 
-An edit that does not fit its proof (a field, a need or a name that is not there, an argument too many, nothing for an `rw` to rewrite) would be
+An edit that does not fit its proof (a field, a need or a name that is not there, an argument too many, nothing for an `rw` or a `simp` to rewrite) would be
 refused whatever it says."""
 import re
 import sys
@@ -10,7 +10,7 @@ from pathlib import Path
 ROOT = Path(__file__).resolve().parent.parent
 SHAPE = (
     r"has no (field )?`|is not in scope|can be named from here|too many arguments|is not a function|is a reserved word|unexpected"
-    r"|not determined by the signature|no occurrence of the path's left endpoint"
+    r"|not determined by the signature|no occurrence of the path's left endpoint|no equation of the list has an instance"
 )
 
 

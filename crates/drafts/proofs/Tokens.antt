@@ -1,10 +1,10 @@
 -- Each token's turn on the tables is the written one. Assumes nothing.
-use Prim.Native.Nat.{ℕ, _≤_, _<_}
-use mathlib.Core.Path.{_≡_, refl, sym, subst}
+use Prim.Native.Nat.{ℕ, _+_, _≤_, _<_}
+use mathlib.Core.Path.{_≡_, refl, ap, sym, subst, _∙_}
 use mathlib.Core.List.{List, [], _∷_}
 use native.Mathlib.Omega.{arith}
-use borrow.Author.Tests.{eqb-true, eqb-false, leb-true, leb-false, le-leb, lt-leb}
-use lib.ListN.{length}
+use borrow.Author.Tests.{eqb-true, eqb-false, leb-true, leb-false, eq-eqb, ne-eqb, le-leb, lt-leb}
+use lib.ListN.{length, set}
 use lib.Dec.{eqb, leb}
 use Rattle.scan.specs.declared.Lit.{Lit}
 use Rattle.scan.specs.declared.Token.{Token}
@@ -21,9 +21,26 @@ use Rattle.drafts.specs.declared.Place.{Place}
 use Rattle.drafts.specs.declared.Next.{Next}
 use Rattle.drafts.specs.declared.Next.the-variants as N
 use Rattle.drafts.specs.Drafting.{Desk, desk, Drafted, whole, Turned, TurnsBy}
-use Rattle.drafts.specs.Turns.{givenBack, afterLiteral, LineEnd, lineEnd, afterLine, afterText}
+use Rattle.drafts.specs.Turns.{placeAt, givenBack, afterLiteral, LineEnd, lineEnd, afterLine, afterText}
 use Rattle.drafts.proofs.Held.{line-length, given-back, line-kept}
 use Rattle.drafts.proofs.Literals.{literal-turns}
+
+-- ---- a line's end in the code, by each way through its tests
+
+module _ (lim : Limits) (p : Place) (n : ℕ) (ss : List ℕ) where
+  pub nothing-held : p .held ≡ p .from → lineEnd (N.Goes p) ss ≡ afterLine lim p n ss
+  unfolding afterLine
+  nothing-held e = rw (eq-eqb (p .held) (p .from) e) refl
+
+  module _ (some : p .held ≡ p .from → ⊥) where
+    pub no-room : lim .clauses ≤ p .clauses → {r : Next} → r ≡ N.Refused (faultAt n ClauseRoom) → lineEnd r ss ≡ afterLine lim p n ss
+    unfolding afterLine
+    no-room full told = ap (λ (r : Next). lineEnd r ss) told ∙ rw (ne-eqb (p .held) (p .from) some, le-leb (lim .clauses) (p .clauses) full) refl
+
+    pub line-closed : p .clauses < lim .clauses
+        → lineEnd (N.Goes (placeAt (p .terms) (p .clauses + 1) (p .held) (p .held))) (set ss (p .clauses + 1) (p .held)) ≡ afterLine lim p n ss
+    unfolding afterLine
+    line-closed room = rw (ne-eqb (p .held) (p .from) some, lt-leb (lim .clauses) (p .clauses) room) refl
 
 -- ---- a line's end, by its literals
 

@@ -1,10 +1,11 @@
 -- The tests of a flip list decide what it answers and leaves. Assumes nothing.
 use Prim.Native.Nat.{ℕ, _+_, _*_, _≤_, _<_}
 use mathlib.Core.Path.{_≡_, refl, ap, sym, subst, _∙_}
+use mathlib.Core.Bool.{Bool, false, not}
 use mathlib.Core.List.{List}
 use lib.ListN.{length}
 use lib.Dec.{ltb}
-use borrow.Author.Tests.{ltb-false}
+use borrow.Author.Tests.{ltb-false, lt-ltb}
 use Rattle.written.specs.declared.Counts.{Counts}
 use Rattle.written.specs.Lists.{all}
 use Rattle.written.specs.Limits.{Limits}
@@ -21,10 +22,17 @@ use Rattle.laws.proofs.FlipCalls.{passed}
 use Rattle.machine.specs.Moving.{Moving}
 use Rattle.machine.specs.Passes.{applied, CanApply}
 use Rattle.machine.specs.Lent.{fixedIn, movingIn}
+use Rattle.machine.proofs.Tests.{said-yes}
 use Rattle.machine.proofs.Applied.{agree-applies, agree-outcome, agree-leaves, agree-few, agree-counted}
 use Rattle.lists.specs.declared.Tested.{Tested}
 use Rattle.lists.specs.declared.Tested.the-variants.{Passed, Failed}
 use Rattle.lists.specs.Tests.{testsOf}
+
+-- a list that is too long, where a was answered to whether the tables are full
+pub tests-long : (lim : Limits) (ts : List ℕ) (n : Counts) (t : Tables) {a : Bool} → a ≡ areFull lim t → not a ≡ false → lim .list < length ts
+    → Failed LongList ≡ testsOf lim ts n t
+unfolding testsOf
+tests-long lim ts n t asked full long = rw (said-yes full asked, lt-ltb (lim .list) (length ts) long) refl
 
 module _ (lim : Limits) (ts : List ℕ) (n : Counts) (t : Tables) where
   -- what the tests say by what they come to

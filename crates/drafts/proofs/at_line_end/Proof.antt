@@ -1,22 +1,18 @@
 -- `drafts::at_line_end` meets its contract: each way out has the tests that lead there. Assumes nothing.
-use mathlib.Core.Path.{refl}
 use borrow.Author.Needs.{needs}
-use borrow.Author.Tests.{eq-eqb, ne-eqb, le-leb, lt-leb}
-use Rattle.drafts.specs.Turns.{afterLine}
+use Rattle.written.specs.Limits.{narrow}
+use Rattle.drafts.proofs.Tokens.{nothing-held, no-room, line-closed}
 use Rattle.drafts.proofs.at_line_end.Statement.{statement}
 use Rattle.drafts.proofs.at_line_end.Tie as tie
 
 returns : tie.Need-returns
-unfolding afterLine
-returns c = rw (eq-eqb _ _ (c .if1 .taken)) refl
+returns c = nothing-held narrow _ _ _ (c .if1 .taken)
 
 returns-2 : tie.Need-returns-2
-unfolding afterLine
-returns-2 c = rw (ne-eqb _ _ (c .before .before .if1 .left), le-leb _ _ (c .before .if2 .taken), c .refused .ensures) refl
+returns-2 c = no-room narrow _ _ _ (c .before .before .if1 .left) (c .before .if2 .taken) (c .refused .ensures)
 
 returns-3 : tie.Need-returns-3
-unfolding afterLine
-returns-3 c = rw (ne-eqb _ _ (c .before .if1 .left), lt-leb _ _ (c .if2 .left)) refl
+returns-3 c = line-closed narrow _ _ _ (c .before .if1 .left) (c .if2 .left)
 
 pub at-line-end-spec : {M : Type 1} → statement M
 at-line-end-spec =

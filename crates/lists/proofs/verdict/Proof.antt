@@ -1,9 +1,11 @@
 -- `lists::verdict` meets its contract: each way out has the tests that lead there. Assumes nothing.
 use mathlib.Core.Path.{refl}
 use borrow.Author.Needs.{needs}
-use borrow.Author.Tests.{lt-ltb, le-ltb}
+use borrow.Author.Tests.{le-ltb}
+use Rattle.written.specs.Limits.{narrow}
 use Rattle.machine.proofs.Tests.{said-no, said-yes, second-no, second-yes}
 use Rattle.lists.specs.Tests.{testsOf}
+use Rattle.lists.proofs.Laws.{tests-long}
 use Rattle.lists.proofs.verdict.Statement.{statement}
 use Rattle.lists.proofs.verdict.Tie as tie
 
@@ -12,8 +14,7 @@ unfolding testsOf
 returns c = rw (said-no (c .if1 .taken) (c .before .are-full .ensures)) refl
 
 returns-2 : tie.Need-returns-2
-unfolding testsOf
-returns-2 c = rw (said-yes (c .before .if1 .left) (c .before .before .are-full .ensures), lt-ltb _ _ (c .if2 .taken)) refl
+returns-2 c = tests-long narrow _ _ _ (c .before .before .are-full .ensures) (c .before .if1 .left) (c .if2 .taken)
 
 returns-3 : tie.Need-returns-3
 unfolding testsOf
