@@ -15,12 +15,9 @@ CHUNK = 40
 HEAD = """-- Generated calls, computed.
 use Prim.Native.Nat.{ℕ}
 use mathlib.Core.Path.{refl}
-use mathlib.Core.Bool.{cond}
 use mathlib.Core.List.{List, [], _∷_}
-use Rattle.scan.specs.declared.Cursor.{Cursor}
-use Rattle.scan.specs.declared.Token.{Token}
-use Rattle.scan.specs.declared.Token.the-variants.{Literal, True, Line, End, Cut, Bad, Long}
-use Rattle.scan.specs.Scan.{scan, passed, cursorAt, reasonOf, lineOf}
+use Rattle.scan.specs.declared.Told.{Told}
+use Rattle.scan.specs.Scan.{scan, passed, cursorAt, toldOf}
 use Rattle.written.specs.declared.Counts.{Counts}
 use Rattle.written.specs.declared.Order.{Order}
 use Rattle.written.specs.Limits.{Limits}
@@ -71,18 +68,9 @@ running x t b =
 abbrev stepped : List ℕ → Seen
 stepped ns = record { numbers = ns; tables = lent [] [] [] [] [] [] [] [] [] []; buffer = [] }
 
--- a token's kind, name and sign, then where reading goes on, before the numbers of the steps after
-abbrev row : Token → ℕ → ℕ → ℕ → Cursor → List ℕ → List ℕ
-row k kind name sign c more = kind ∷ reasonOf k ∷ lineOf k ∷ name ∷ sign ∷ c .at ∷ c .line ∷ more
-
-abbrev telling : Token → Cursor → List ℕ → List ℕ
-telling (Literal l) c more = row (Literal l) 1 (l .name) (cond (l .negated) 1 0) c more
-telling (True n) c more = row (True n) 2 0 0 c more
-telling (Line n) c more = row (Line n) 3 0 0 c more
-telling (End n) c more = row (End n) 4 0 0 c more
-telling (Cut n) c more = row (Cut n) 0 0 0 c more
-telling (Bad n) c more = row (Bad n) 0 0 0 c more
-telling (Long n) c more = row (Long n) 0 0 0 c more
+-- a step's numbers, before those of the steps after
+abbrev row : Told → List ℕ → List ℕ
+row s more = s .kind ∷ s .reason ∷ s .line ∷ s .name ∷ s .negated ∷ s .at ∷ s .below ∷ more
 
 -- a step from a place and its line, written out: computed from the step before, the prover would compute all steps before it again
 pub data Asked : Type 0 where
@@ -92,7 +80,7 @@ pub data Asked : Type 0 where
 -- the numbers of all steps
 abbrev steps : List ℕ → List Asked → List ℕ
 steps t [] = []
-steps t (next at line ∷ more) = telling (scan t (cursorAt at line) .token) (scan t (cursorAt at line) .next) (steps t more)
+steps t (next at line ∷ more) = row (toldOf (scan t (cursorAt at line))) (steps t more)
 steps t (pass at line ∷ more) = 0 ∷ 0 ∷ 0 ∷ 0 ∷ 0 ∷ passed t (cursorAt at line) .at ∷ passed t (cursorAt at line) .line ∷ steps t more
 
 abbrev scanning : List ℕ → List Asked → Seen
@@ -106,7 +94,7 @@ TAIL = """
     ∷ []
 
 pub agree : Tells table
-unfolding computing
+unfolding computing toldOf
 agree = refl
 """
 
