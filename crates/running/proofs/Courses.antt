@@ -1,4 +1,4 @@
--- The tests of a run, in their order: what each way through them comes to. Assumes nothing.
+-- A run by how it sets out: what each way comes to. Assumes nothing.
 use Prim.Native.Nat.{ℕ, _+_, _-_, _^_, _≤_, _<_}
 use mathlib.Core.Logic.{inl, inr}
 use mathlib.Core.Path.{_≡_, refl, ap, sym, subst, _∙_}
@@ -6,70 +6,70 @@ use mathlib.Core.Bool.{Bool, true, false, not}
 use mathlib.Core.List.{List}
 use native.Mathlib.Omega.{arith}
 use lib.ListN.{length, take, drop}
-use borrow.Author.Tests.{lt-ltb, le-ltb}
 use borrow.Rule.Slice.PartAt.{part-to-end}
 use Rattle.written.specs.declared.Fault.{Fault}
 use Rattle.written.specs.declared.Sheet.{Sheet}
-use Rattle.written.specs.declared.Ordered.{Ordered}
-use Rattle.written.specs.declared.Ordered.the-variants.{Accepted, Refused}
-use Rattle.written.specs.declared.Reason.the-variants.{LongText}
+use Rattle.written.specs.declared.Ordered.the-variants as O
 use Rattle.written.specs.declared.RunAnswer.{RunAnswer}
 use Rattle.written.specs.Limits.{Limits}
-use Rattle.written.specs.Reasons.{fault}
 use Rattle.written.specs.Reading.{readText}
-use Rattle.written.specs.Tables.{Tables, areFull}
-use Rattle.written.specs.Sheet.{sheetOf}
+use Rattle.written.specs.Tables.{Tables, lent, areFull}
 use Rattle.written.specs.Printed.{refusal}
-use Rattle.written.specs.Program.{Ran, unbegun, unread, afterReading, afterSheet, courseOf, said, reportSize, tablesAfter, runRefused, ran, runOf}
-use Rattle.laws.proofs.Sheets.{Judged, sheet-judged}
+use Rattle.written.specs.Program.{Ran, unbegun, unread, afterReading, courseOf, said, reportSize, tablesAfter, runRefused, ran, runOf}
 use Rattle.laws.proofs.RunCalls.{run-short, run-ran}
 use Rattle.machine.proofs.Tests.{said-no, said-yes}
-use Rattle.reading.specs.Clearing.{blanked}
-use Rattle.reading.proofs.Cleared.{blanked-is}
+use Rattle.inputs.specs.declared.Outset.{Outset}
+use Rattle.inputs.specs.declared.Outset.the-variants.{Long, Refused, Begins}
+use Rattle.inputs.specs.Outsets.{outsetOf}
+use Rattle.inputs.proofs.Courses.{Says, outset-says}
+use Rattle.drafts.specs.Drafting.{Desk}
+use Rattle.reading.specs.Clearing.{Others, wiped, wipedOthers, deskIn, othersIn}
+use Rattle.reading.proofs.Cleared.{both-wiped, blanked-is}
 use Rattle.reports.specs.Pages.{page, put, CanPut}
 use Rattle.solving.specs.Running.{answered, ended, CanRun, CanRead}
 use Rattle.solving.proofs.Ends.{ended-by, refusal-room}
 
 module _ (lim : Limits) (input : List ℕ) (t : Tables) (b : List ℕ) (can : CanRun lim t b) where
+  -- a was told of how it sets out, and is o
+  module _ (o : Outset) {a : Outset} (answer : a ≡ outsetOf lim input) (told : a ≡ o) where
+    known : Says lim input o
+    known = subst (Says lim input) (sym answer ∙ told) (outset-says lim input)
+
   -- an input that is too long
-  pub long-ends : lim .text < length input → {r : ℕ} {u : Tables} {out : List ℕ} → u ≡ blanked lim t
-      → page r out ≡ put (refusal (fault LongText)) (page 0 b) → ended r u out ≡ ran lim t b (courseOf lim input)
-  unfolding courseOf said tablesAfter
-  long-ends long tables written =
-      rw (lt-ltb (lim .text) (length input) long) (ended-by lim t b (unread (fault LongText)) (tables ∙ blanked-is lim t (can .full)) written)
+  module _ (e : Fault) {a : Outset} (answer : a ≡ outsetOf lim input) (told : a ≡ Long e) where
+    pub long-fits : lim .text + 1 < 10 ^ 20 → CanPut (refusal e) (page 0 b)
+    long-fits short = refusal-room lim t b can e short (omega (arith, known (Long e) answer told .1))
 
-  -- one that is not: its sheet decides
-  module _ (s : Ordered) {x : Ordered} (answer : x ≡ sheetOf input) (told : x ≡ s) where
-    after-sheet : length input ≤ lim .text → courseOf lim input ≡ afterSheet lim input s
-    unfolding courseOf
-    after-sheet short = rw (le-ltb (lim .text) (length input) short) (ap (afterSheet lim input) (sym answer ∙ told))
+    pub long-ends : {w : Desk} {o : Others} → w ≡ wiped lim (deskIn t) → o ≡ wipedOthers lim (othersIn t) → {r : ℕ} {out : List ℕ} → page r out ≡ put (refusal e) (page 0 b)
+        → ended r (lent (w .names) (o .values) (w .starts) (w .literals) (o .occurrenceStarts) (o .occurrences) (o .trues) (w .stamps) (o .uncovered) (w .slots)) out
+        ≡ ran lim t b (courseOf lim input)
+    unfolding said tablesAfter
+    long-ends draft others written =
+        ended-by lim t b (unread e) (both-wiped lim t draft others ∙ blanked-is lim t (can .full)) written ∙ ap (ran lim t b) (sym (known (Long e) answer told .0))
 
-    judged : Judged (length input) s
-    judged = subst (Judged (length input)) (sym answer ∙ told) (sheet-judged input)
-
-  module _ (e : Fault) {x : Ordered} (answer : x ≡ sheetOf input) (told : x ≡ Refused e) where
+  -- a sheet that is refused
+  module _ (e : Fault) {a : Outset} (answer : a ≡ outsetOf lim input) (told : a ≡ Refused e) where
     pub sheet-fits : lim .text + 1 < 10 ^ 20 → CanPut (refusal e) (page 0 b)
-    sheet-fits short = refusal-room lim t b can e short (omega (arith, judged (Refused e) answer told .1))
+    sheet-fits short = refusal-room lim t b can e short (omega (arith, known (Refused e) answer told .1))
 
-    pub sheet-ends : length input ≤ lim .text → {r : ℕ} {out : List ℕ} → page r out ≡ put (refusal e) (page 0 b)
-        → ended r t out ≡ ran lim t b (courseOf lim input)
-    unfolding afterSheet said tablesAfter
-    sheet-ends short written = ended-by lim t b (unbegun (Refused e)) refl written ∙ ap (ran lim t b) (sym (after-sheet (Refused e) answer told short))
+    pub sheet-ends : {r : ℕ} {out : List ℕ} → page r out ≡ put (refusal e) (page 0 b) → ended r t out ≡ ran lim t b (courseOf lim input)
+    unfolding said tablesAfter
+    sheet-ends written = ended-by lim t b (unbegun (O.Refused e)) refl written ∙ ap (ran lim t b) (sym (known (Refused e) answer told .0))
 
-  module _ (s : Sheet) {x : Ordered} (answer : x ≡ sheetOf input) (told : x ≡ Accepted s) where
+  -- a text that is to be read
+  module _ (s : Sheet) {a : Outset} (answer : a ≡ outsetOf lim input) (told : a ≡ Begins s) where
     pub text-within : s .at ≤ length input
-    text-within = judged (Accepted s) answer told .1
+    text-within = known (Begins s) answer told .2
 
     pub sheet-reads : CanRead lim (s .order) t b
-    sheet-reads = record { run = can; range = judged (Accepted s) answer told .0 }
+    sheet-reads = record { run = can; range = known (Begins s) answer told .1 }
 
-    -- the text is lent as the part of the input from its place to the end
-    pub text-ends : length input ≤ lim .text → {z : Ran}
-        → z ≡ ran lim t b (afterReading (s .order) (readText lim (take (length input - s .at) (drop (s .at) input)))) → z ≡ ran lim t b (courseOf lim input)
-    unfolding afterSheet
-    text-ends short e =
+    -- it is lent as the part of the input from its place to the end
+    pub text-ends : {z : Ran} → z ≡ ran lim t b (afterReading (s .order) (readText lim (take (length input - s .at) (drop (s .at) input))))
+        → z ≡ ran lim t b (courseOf lim input)
+    text-ends e =
         e ∙ ap (λ (text : List ℕ). ran lim t b (afterReading (s .order) (readText lim text))) (part-to-end input (s .at))
-        ∙ ap (ran lim t b) (sym (after-sheet (Accepted s) answer told short))
+        ∙ ap (ran lim t b) (sym (known (Begins s) answer told .0))
 
 -- whether a run can begin
 module _ (lim : Limits) (t : Tables) (b : List ℕ) where

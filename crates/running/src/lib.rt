@@ -5,12 +5,11 @@ ghost use Rattle.written.specs.Limits.{narrow};
 ghost use Rattle.written.specs.Tables.{lent};
 ghost use Rattle.written.specs.Program.{courseOf, ran, runRefused, runOf};
 ghost use Rattle.solving.specs.Running.{answered, ended, CanRun};
-use written::Fault;
-use written::Ordered;
+use inputs::Outset;
 use written::Reason;
 use written::RunAnswer;
 
-// The tests of the program in their order: its whole input's size, its sheet, its text.
+// A run from its outset: an input that is too long or has a faulty sheet is refused, else its text is read.
 fn begin(
     input: &[u8],
     names: &mut [u64],
@@ -32,20 +31,14 @@ fn begin(
         ≡ ran narrow (lent (now (names .entry)) (now (values .entry)) (now (starts .entry)) (now (literals .entry))
         (now («occurrence_starts» .entry)) (now (occurrences .entry)) (now (trues .entry)) (now (breaks .entry)) (now (uncovered .entry)) (now (places .entry))) (now (out .entry)) (courseOf narrow (now (input .entry))) ⌝ }
 {
-    if 65536 < input.len() {
-        reading::clear_draft(names, starts, literals, breaks, places);
-        reading::clear_others(values, occurrence_starts, occurrences, trues, uncovered);
-        return reports::refusal(
-            out,
-            Fault {
-                reason: Reason::LongText,
-                line: 0,
-            },
-        );
-    }
-    match sheets::sheet(input) {
-        Ordered::Refused(e) => reports::refusal(out, e),
-        Ordered::Accepted(s) => {
+    match inputs::set_out(input) {
+        Outset::Long(e) => {
+            reading::clear_draft(names, starts, literals, breaks, places);
+            reading::clear_others(values, occurrence_starts, occurrences, trues, uncovered);
+            reports::refusal(out, e)
+        }
+        Outset::Refused(e) => reports::refusal(out, e),
+        Outset::Begins(s) => {
             let order = s.order;
             let at = s.at as usize;
             solving::read_on(

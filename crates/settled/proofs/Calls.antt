@@ -9,6 +9,7 @@ use Rattle.reading.proofs.read as read
 use Rattle.lists.proofs.apply as apply
 use Rattle.walks.proofs.walk as walk
 use Rattle.sheets.proofs.sheet as sheet
+use Rattle.inputs.proofs.set_out as set-out
 use Rattle.running.proofs.run_sheet as run-sheet
 use Rattle.ngiyarumba.proofs.draws.ngi_draw as ngi-draw
 use Rattle.ngiyarumba.proofs.draws.ngi_choice as ngi-choice
@@ -35,6 +36,9 @@ walk-settled M 𝓤 H A mem run κs a g = record { asks-nothing = refl; one-outc
 
 pub sheet-settled : Public sheet.ended (λ M. sheet.clauses)
 sheet-settled M 𝓤 H A mem run κs a g = record { asks-nothing = refl; one-outcome = λ x y. both 𝓤 (λ p q. same (meet p q) refl) }
+
+pub set-out-settled : Public set-out.ended (λ M. set-out.clauses)
+set-out-settled M 𝓤 H A mem run κs a g = record { asks-nothing = refl; one-outcome = λ x y. both 𝓤 (λ p q. same (meet p q) refl) }
 
 pub run-sheet-settled : Public run-sheet.ended (λ M. run-sheet.clauses)
 run-sheet-settled M 𝓤 H A mem run κs a g = record { asks-nothing = refl; one-outcome = λ x y. both 𝓤 (λ p q. let e = meet p q in same (ap (λ (r : Ran). r .answer) e) (ap (λ (r : Ran). (tt, ten (r .tables) (r .buffer, tt))) e)) }

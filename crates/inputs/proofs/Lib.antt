@@ -1,0 +1,2 @@
+-- The functions' proofs stand beside their names; here what they lean on.
+pub mod Courses

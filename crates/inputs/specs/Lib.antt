@@ -1,0 +1,2 @@
+-- How a run sets out.
+pub mod Outsets
