@@ -1,4 +1,4 @@
--- What the laws speak of beside the definitions of `written`.
+-- What the laws speak of beside the definitions of `written`, and value words worked out.
 pub mod Valid
 pub mod Calls
 pub mod Demands
@@ -8,3 +8,4 @@ pub mod WalkCalls
 pub mod Sheets
 pub mod RunCalls
 pub mod Excess
+pub mod WordExamples
