@@ -102,7 +102,7 @@ pub extern "C" fn ngi_walk(
         literals: literals,
         uncovered: uncovered,
     };
-    let answer = walks::walk(
+    let answer = walk_calls::walk(
         o,
         n,
         names,

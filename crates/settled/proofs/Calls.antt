@@ -7,7 +7,7 @@ use Rattle.judging.proofs.are_full as are-full
 use Rattle.judging.proofs.agrees as agrees
 use Rattle.reading.proofs.read as read
 use Rattle.lists.proofs.apply as apply
-use Rattle.walks.proofs.walk as walk
+use Rattle.walk_calls.proofs.walk as walk
 use Rattle.sheets.proofs.sheet as sheet
 use Rattle.inputs.proofs.set_out as set-out
 use Rattle.running.proofs.run_sheet as run-sheet

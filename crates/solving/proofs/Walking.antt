@@ -18,7 +18,7 @@ use Rattle.laws.proofs.Agreeing.{agree-valid}
 use Rattle.laws.proofs.Valids.{end-valid}
 use Rattle.laws.proofs.Sheets.{ranged}
 use Rattle.laws.proofs.Reports.{walked-length}
-use Rattle.walks.specs.Tests.{walkMade}
+use Rattle.walks.specs.Made.{walkMade}
 use Rattle.reports.specs.Pages.{page, put, CanPut}
 use Rattle.reports.specs.Reporting.{reportIn, namesIn, CanReport}
 use Rattle.solving.specs.Running.{ended, CanWalk}

@@ -1,6 +1,4 @@
 -- The functions' proofs stand beside their names; here what they lean on.
-pub mod Ranges
-pub mod Decided
 pub mod Followed
 pub mod Loop
 pub mod Outcome

@@ -34,7 +34,7 @@ use Rattle.machine.proofs.Agreed as agreed
 use Rattle.stepping.specs.Stepping.{Stand}
 use Rattle.stepping.specs.Following.{Follows, atRest, walking}
 use Rattle.walks.specs.Walking.{End, walksIn, CanWalks}
-use Rattle.walks.specs.Tests.{walkMade}
+use Rattle.walks.specs.Made.{walkMade}
 use Rattle.walks.proofs.Followed.{Sized, Ends, walks-follow}
 
 -- a walk draws its values: those that stand make no difference

@@ -1,3 +1,3 @@
--- Walks one after the other on the lent tables, and the tests of a walk.
+-- Walks one after the other on the lent tables, and what is made of them.
 pub mod Walking
-pub mod Tests
+pub mod Made

@@ -1,32 +1,22 @@
-// Walks: found, given up or refused.
+// Walks on tables that have been tested: found or given up.
 // A function that another crate of the library calls may ask something of its tables, by one record, which its caller proves; none is exported.
 ghost use mathlib.Core.Path.{_≡_};
 ghost use Prim.Native.Nat.{_^_};
 ghost use lib.ListN.{length};
 ghost use Rattle.written.specs.Limits.{narrow};
 ghost use Rattle.written.specs.Tables.{lent};
-ghost use Rattle.written.specs.Orders.{inRange};
-ghost use Rattle.written.specs.Outcomes.{walkOf};
 ghost use Rattle.laws.specs.WalkCalls.{Allowed};
 ghost use Rattle.machine.specs.Tallies.{tallies};
 ghost use Rattle.machine.specs.Moving.{fixed};
 ghost use Rattle.stepping.specs.Stepping.{stand};
 ghost use Rattle.walks.specs.Walking.{end, walksIn, CanWalks};
-ghost use Rattle.walks.specs.Tests.{testsOf, walkMade};
+ghost use Rattle.walks.specs.Made.{walkMade};
 use draw::Generator;
 use stepping::At;
 use written::Counts;
 use written::Order;
-use written::Reason;
-use written::Refusal;
 use written::Tour;
 use written::Walked;
-
-// What the tests of a walk come to.
-enum Tested {
-    Passed,
-    Failed(Reason),
-}
 
 // How the walks end: found or not, walks begun, and where they stand.
 struct Ended {
@@ -151,136 +141,4 @@ pub fn walk_tested(
         return Walked::Found(tour);
     }
     Walked::GaveUp(tour)
-}
-
-// Every number of the order is in its range.
-fn in_range(order: Order) -> bool
-    ensures { λ r. ⌜ r ≡ inRange order ⌝ }
-{
-    if order.seed == 0 {
-        return false;
-    }
-    if order.flips > 100000 {
-        return false;
-    }
-    if order.walks == 0 {
-        return false;
-    }
-    if order.walks > 1000 {
-        return false;
-    }
-    order.bias <= 1000
-}
-
-// The tests, in their order: 1, 11, 12.
-fn verdict(
-    order: Order,
-    n: Counts,
-    names: &[u64],
-    values: &[u32],
-    starts: &[u16],
-    literals: &[u16],
-    occurrence_starts: &[u16],
-    occurrences: &[u16],
-    trues: &[u16],
-    breaks: &[u16],
-    uncovered: &[u16],
-    places: &[u16],
-) -> Tested
-    ensures { λ r. ⌜ r ≡ testsOf narrow order n (lent (now (names .entry)) (now (values .entry)) (now (starts .entry)) (now (literals .entry))
-        (now («occurrence_starts» .entry)) (now (occurrences .entry)) (now (trues .entry)) (now (breaks .entry)) (now (uncovered .entry)) (now (places .entry))) ⌝ }
-{
-    if !judging::are_full(
-        names,
-        values,
-        starts,
-        literals,
-        occurrence_starts,
-        occurrences,
-        trues,
-        breaks,
-        uncovered,
-        places,
-    ) {
-        return Tested::Failed(Reason::ShortTable);
-    }
-    if !in_range(order) {
-        return Tested::Failed(Reason::OutOfRange);
-    }
-    if !judging::agrees(
-        n,
-        names,
-        values,
-        starts,
-        literals,
-        occurrence_starts,
-        occurrences,
-        trues,
-        breaks,
-        uncovered,
-        places,
-    ) {
-        return Tested::Failed(Reason::Disagreement);
-    }
-    Tested::Passed
-}
-
-// The walks of an order, or a refusal that changes nothing.
-pub fn walk(
-    order: Order,
-    n: Counts,
-    names: &[u64],
-    values: &mut [u32],
-    starts: &[u16],
-    literals: &[u16],
-    occurrence_starts: &[u16],
-    occurrences: &[u16],
-    trues: &mut [u16],
-    breaks: &mut [u16],
-    uncovered: &mut [u16],
-    places: &mut [u16],
-) -> Walked
-    ensures { λ r. ⌜ (r ≡ walkOf narrow order n (lent (now (names .entry)) (now (values .entry)) (now (starts .entry)) (now (literals .entry))
-        (now («occurrence_starts» .entry)) (now (occurrences .entry)) (now (trues .entry)) (now (breaks .entry)) (now (uncovered .entry)) (now (places .entry))) .answer)
-        × (lent (now (names .entry)) (now (values .exit)) (now (starts .entry)) (now (literals .entry))
-        (now («occurrence_starts» .entry)) (now (occurrences .entry)) (now (trues .exit)) (now (breaks .exit)) (now (uncovered .exit)) (now (places .exit))
-        ≡ walkOf narrow order n (lent (now (names .entry)) (now (values .entry)) (now (starts .entry)) (now (literals .entry))
-        (now («occurrence_starts» .entry)) (now (occurrences .entry)) (now (trues .entry)) (now (breaks .entry)) (now (uncovered .entry)) (now (places .entry))) .tables) ⌝ }
-{
-    match verdict(
-        order,
-        n,
-        names,
-        values,
-        starts,
-        literals,
-        occurrence_starts,
-        occurrences,
-        trues,
-        breaks,
-        uncovered,
-        places,
-    ) {
-        Tested::Failed(reason) => {
-            return Walked::Refused(Refusal {
-                reason: reason,
-                counts: n,
-            });
-        }
-        Tested::Passed => {}
-    }
-    walk_tested(
-        order,
-        n,
-        names,
-        values,
-        starts,
-        literals,
-        occurrence_starts,
-        occurrences,
-        trues,
-        breaks,
-        uncovered,
-        places,
-    )
 }

@@ -2,16 +2,13 @@
 use mathlib.Core.Bool.{not, cond}
 use Rattle.written.specs.declared.Counts.{Counts}
 use Rattle.written.specs.declared.Order.{Order}
-use Rattle.written.specs.declared.Walked.{Walked}
 use Rattle.written.specs.declared.Reason.the-variants.{ShortTable, OutOfRange, Disagreement}
 use Rattle.written.specs.Limits.{Limits}
 use Rattle.written.specs.Tables.{Tables, areFull}
-use Rattle.written.specs.Agreement.{fileIn, agree}
+use Rattle.written.specs.Agreement.{agree}
 use Rattle.written.specs.Orders.{inRange}
-use Rattle.written.specs.Outcomes.{Leaves, walkLeaves}
-use Rattle.written.specs.Walk.{walkOver}
-use Rattle.walks.specs.declared.Tested.{Tested}
-use Rattle.walks.specs.declared.Tested.the-variants.{Passed, Failed}
+use Rattle.walk_calls.specs.declared.Tested.{Tested}
+use Rattle.walk_calls.specs.declared.Tested.the-variants.{Passed, Failed}
 
 -- what they come to
 unfoldable pub testsOf : Limits → Order → Counts → Tables → Tested
@@ -19,7 +16,3 @@ testsOf lim o n t =
     cond (not (areFull lim t)) (Failed ShortTable)
     (cond (not (inRange o)) (Failed OutOfRange)
     (cond (not (agree lim n t)) (Failed Disagreement) Passed))
-
--- what a walk answers and leaves once it is made
-abbrev pub walkMade : Limits → Order → Counts → Tables → Leaves Walked
-walkMade lim o n t = walkLeaves lim t (walkOver o (fileIn n t))

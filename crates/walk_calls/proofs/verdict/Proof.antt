@@ -1,10 +1,10 @@
--- `walks::verdict` meets its contract: each way out has the tests that lead there. Assumes nothing.
+-- `walk_calls::verdict` meets its contract: each way out has the tests that lead there. Assumes nothing.
 use mathlib.Core.Path.{refl}
 use borrow.Author.Needs.{needs}
 use Rattle.machine.proofs.Tests.{said-no, said-yes, second-no, second-yes}
-use Rattle.walks.specs.Tests.{testsOf}
-use Rattle.walks.proofs.verdict.Statement.{statement}
-use Rattle.walks.proofs.verdict.Tie as tie
+use Rattle.walk_calls.specs.Tests.{testsOf}
+use Rattle.walk_calls.proofs.verdict.Statement.{statement}
+use Rattle.walk_calls.proofs.verdict.Tie as tie
 
 returns : tie.Need-returns
 unfolding testsOf

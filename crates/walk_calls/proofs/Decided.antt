@@ -14,9 +14,10 @@ use Rattle.laws.specs.WalkCalls.{Allowed, Fails}
 use Rattle.laws.specs.WalkCalls.Fails.{short, outside, disagree}
 use Rattle.laws.proofs.Basics.{by-cases}
 use Rattle.laws.proofs.WalkCalls.{failed, passed}
-use Rattle.walks.specs.declared.Tested.{Tested}
-use Rattle.walks.specs.declared.Tested.the-variants.{Passed, Failed}
-use Rattle.walks.specs.Tests.{testsOf, walkMade}
+use Rattle.walk_calls.specs.declared.Tested.{Tested}
+use Rattle.walk_calls.specs.declared.Tested.the-variants.{Passed, Failed}
+use Rattle.walks.specs.Made.{walkMade}
+use Rattle.walk_calls.specs.Tests.{testsOf}
 
 module _ (lim : Limits) (o : Order) (n : Counts) (t : Tables) where
   -- what the tests say by what they come to

@@ -1,8 +1,8 @@
--- `walks::in_range` meets its contract: each way out has the tests that lead there. Assumes nothing.
+-- `walk_calls::in_range` meets its contract: each way out has the tests that lead there. Assumes nothing.
 use native.Mathlib.Omega.{arith}
-use Rattle.walks.proofs.Ranges.{not-ranged, but-bias}
-use Rattle.walks.proofs.in_range.Statement.{statement}
-use Rattle.walks.proofs.in_range.Tie as tie
+use Rattle.walk_calls.proofs.Ranges.{not-ranged, but-bias}
+use Rattle.walk_calls.proofs.in_range.Statement.{statement}
+use Rattle.walk_calls.proofs.in_range.Tie as tie
 
 returns : tie.Need-returns
 returns c = not-ranged _ (λ r. omega (arith, r .seed-pos, c .if1 .taken))

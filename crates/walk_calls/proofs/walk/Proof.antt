@@ -1,10 +1,10 @@
--- `walks::walk` meets its contract: refused, nothing changes; else the walks are made. Assumes nothing.
+-- `walk_calls::walk` meets its contract: refused, nothing changes; else the walks are made. Assumes nothing.
 use mathlib.Core.Path.{sym, _∙_}
 use borrow.Author.Needs.{needs}
 use Rattle.written.specs.Limits.{narrow}
-use Rattle.walks.proofs.Decided.{refused-answer, refused-tables, passed-allowed, made-answer, made-tables}
-use Rattle.walks.proofs.walk.Statement.{statement}
-use Rattle.walks.proofs.walk.Tie as tie
+use Rattle.walk_calls.proofs.Decided.{refused-answer, refused-tables, passed-allowed, made-answer, made-tables}
+use Rattle.walk_calls.proofs.walk.Statement.{statement}
+use Rattle.walk_calls.proofs.walk.Tie as tie
 
 returns : tie.Need-returns
 returns c =

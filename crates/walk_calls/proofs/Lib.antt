@@ -1,0 +1,3 @@
+-- The functions' proofs stand beside their names; here what they lean on.
+pub mod Ranges
+pub mod Decided

@@ -1,0 +1,2 @@
+-- What the tests of a walk come to.
+pub mod Tests
