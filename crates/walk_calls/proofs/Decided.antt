@@ -55,3 +55,16 @@ module _ (lim : Limits) (o : Order) (n : Counts) (t : Tables) where
 
     pub made-tables : {u : Tables} → u ≡ walkMade lim o n t .tables → u ≡ walkOf lim o n t .tables
     made-tables q = q ∙ sym (ap (λ (l : Leaves Walked). l .tables) (passed lim o n t passed-allowed))
+
+-- what the tests said, as a
+module _ (lim : Limits) (o : Order) (n : Counts) (t : Tables) {a : Tested} (asked : a ≡ testsOf lim o n t) where
+  pub was-refused : {e : Reason} → a ≡ Failed e
+      → (W.Refused (record { reason = e; counts = n }) ≡ walkOf lim o n t .answer) × (t ≡ walkOf lim o n t .tables)
+  was-refused q = (refused-answer lim o n t (sym asked ∙ q), refused-tables lim o n t (sym asked ∙ q))
+
+  pub was-allowed : a ≡ Passed → Allowed lim o n t
+  was-allowed q = passed-allowed lim o n t (sym asked ∙ q)
+
+  pub was-made : a ≡ Passed → {r : Walked} {u : Tables} → (r ≡ walkMade lim o n t .answer) × (u ≡ walkMade lim o n t .tables)
+      → (r ≡ walkOf lim o n t .answer) × (u ≡ walkOf lim o n t .tables)
+  was-made q e = (made-answer lim o n t (sym asked ∙ q) (e .0), made-tables lim o n t (sym asked ∙ q) (e .1))

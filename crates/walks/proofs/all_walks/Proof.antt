@@ -54,6 +54,25 @@ pub all-walks-spec : {M : Type 1} → statement M
 all-walks-spec =
     tie.close
     (tie.spec Inv-loop μ-loop loop-holds one-walk-requires (λ c. search needs)
-    (λ c. search needs) (λ c. search needs) (λ c. search needs) (λ c. search needs) (λ c. search needs) (λ c. search needs) returns
-    (λ c. search needs) loop-again
-    (λ c. search needs) (λ c. search needs) (λ c. search needs) (λ c. search needs) (λ c. search needs) (λ c. search needs) returns-2)
+    (λ c. let d = c .before .before .before .before .before .before .before .before .before .before .before .before .before in d .values .given ∙
+    d .before .before .before .before .before .before .before .before .before .before .loop .inv .2)
+    (λ c. let d = c .before .before .before .before .before .before .before .before .before .before .before in d .trues .given ∙
+    d .before .before .before .before .before .before .before .before .before .before .before .before .loop .inv .1 .trues-size)
+    (λ c. let d = c .before .before .before .before .before .before .before .before .before in d .breaks .given ∙
+    d .before .before .before .before .before .before .before .before .before .before .before .before .before .before .loop .inv .1 .breaks-size)
+    (λ c. let d = c .before .before .before .before .before .before .before in d .list .given ∙
+    d .before .before .before .before .before .before .before .before .before .before .before .before .before .before .before .before .loop .inv .1 .list-size)
+    (λ c. let d = c .before .before .before .before .before in d .places .given ∙
+    d .before .before .before .before .before .before .before .before .before .before .before .before .before .before .before .before .before
+    .before .loop .inv .1 .places-size)
+    (λ c. let d = c .before .before .before in d .ties .given ∙
+    d .before .before .before .before .before .before .before .before .before .before .before .before .before .before .before .before .before .before
+    .before .before .loop .inv .3)
+    returns (λ c. search needs) loop-again
+    (λ c. c .before .before .loop .inv .2)
+    (λ c. c .before .before .loop .inv .1 .trues-size)
+    (λ c. c .before .before .loop .inv .1 .breaks-size)
+    (λ c. c .before .before .loop .inv .1 .list-size)
+    (λ c. c .before .before .loop .inv .1 .places-size)
+    (λ c. c .before .before .loop .inv .3)
+    returns-2)

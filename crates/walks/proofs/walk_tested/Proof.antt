@@ -1,5 +1,6 @@
 -- `walks::walk_tested` meets its contract: walks on tables that agree, closed at the end. Assumes nothing.
 use Prim.Native.Nat.{_^_}
+use mathlib.Core.Path.{refl, _∙_}
 use native.Mathlib.Omega.{arith}
 use borrow.Author.Needs.{needs}
 use Rattle.written.specs.Limits.{narrow}
@@ -33,6 +34,20 @@ returns-2 c =
 pub walk-tested-spec : {M : Type 1} → statement M
 walk-tested-spec =
     tie.close
-    (tie.spec (λ c. search needs) (λ c. search needs) (λ c κs. search needs) all-walks-requires (λ c. search needs) close-all-requires cast-t37
-    (λ c. search needs) (λ c. search needs) (λ c. search needs) (λ c. search needs) (λ c. search needs) returns
-    (λ c. search needs) (λ c. search needs) (λ c. search needs) (λ c. search needs) (λ c. search needs) returns-2)
+    (tie.spec (λ c. refl) (λ c. search needs) (λ c κs. search needs) all-walks-requires (λ c. search needs) close-all-requires cast-t37
+    (λ c. c .before .before .before .before .before .before .before .before .before .before .before .before .before .before .before .before .before
+    .before .before .values .given)
+    (λ c. c .before .before .before .before .before .before .before .before .before .before .before .before .before .before .before .before
+    .before .trues .given)
+    (λ c. c .before .before .before .before .before .before .before .before .before .before .before .before .before .before .before .breaks .given)
+    (λ c. c .before .before .before .before .before .before .before .before .before .before .before .before .before .uncovered .given)
+    (λ c. let d = c .before .before .before .before in d .places2 .given ∙ d .before .before .before .before .before .before .before .places .given)
+    returns
+    (λ c. c .before .before .before .before .before .before .before .before .before .before .before .before .before .before .before .before .before
+    .before .before .values .given)
+    (λ c. c .before .before .before .before .before .before .before .before .before .before .before .before .before .before .before .before
+    .before .trues .given)
+    (λ c. c .before .before .before .before .before .before .before .before .before .before .before .before .before .before .before .breaks .given)
+    (λ c. c .before .before .before .before .before .before .before .before .before .before .before .before .before .uncovered .given)
+    (λ c. let d = c .before .before .before .before in d .places2 .given ∙ d .before .before .before .before .before .before .before .places .given)
+    returns-2)
