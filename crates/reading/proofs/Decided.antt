@@ -15,8 +15,9 @@ use Rattle.written.specs.Outcomes.{Leaves, readLeaves, readingOf}
 use Rattle.laws.proofs.Holding.{cleared-full, cleared-again, holding-cleared}
 use Rattle.laws.proofs.Readings.{reading-valid}
 use Rattle.laws.proofs.ReadCalls.{short-reading, full-reading}
-use Rattle.reading.specs.Clearing.{blanked, Bare}
-use Rattle.reading.proofs.Cleared.{blanked-is}
+use Rattle.reading_end.specs.Clearing.{blanked}
+use Rattle.reading_end.proofs.Cleared.{blanked-is}
+use Rattle.reading.specs.Bare.{Bare}
 
 -- full tables, and u once they are cleared
 module _ (lim : Limits) (t : Tables) (full : areFull lim t ≡ true) {u : Tables} (e : u ≡ blanked lim t) where

@@ -1,7 +1,6 @@
 -- What the proofs of a reading's functions cite; these stand beside the functions' names.
-pub mod Cleared
-pub mod Finished
-pub mod Tests
+pub mod Bare
+pub mod Texts
 pub mod Fresh
 pub mod Whole
 pub mod Refused

@@ -15,11 +15,12 @@ use Rattle.written.specs.Outcomes.{readLeaves}
 use Rattle.laws.proofs.Each.Table.{Names, Starts, Literals, Breaks, Places}
 use Rattle.laws.proofs.Holding.{full-at}
 use Rattle.drafts.specs.Drafting.{Desk, desk, Beyond, Blank, readAll}
-use Rattle.reading.specs.declared.Tested.the-variants.{Passed, Failed}
-use Rattle.reading.specs.Tests.{textTests}
-use Rattle.reading.specs.Clearing.{Bare, deskIn, wiped}
-use Rattle.reading.proofs.Tests.{failed-read, passed-read, passed-short}
-use Rattle.reading.proofs.Cleared.{bare-zero, bare-back, bare-back-from}
+use Rattle.reading_end.specs.declared.Tested.the-variants.{Passed, Failed}
+use Rattle.reading_end.specs.Tests.{textTests}
+use Rattle.reading_end.specs.Clearing.{deskIn, wiped}
+use Rattle.reading.specs.Bare.{Bare}
+use Rattle.reading.proofs.Texts.{failed-read, passed-read, passed-short}
+use Rattle.reading.proofs.Bare.{bare-zero, bare-back, bare-back-from}
 
 -- the text fails a test: nothing is written
 module _ (lim : Limits) (text : List ℕ) (t : Tables) (b : Bare lim t) {r : Reason} (h : textTests lim text ≡ Failed r) where

@@ -28,12 +28,13 @@ use Rattle.machine.proofs.Recounted.{recount-can}
 use Rattle.machine.proofs.Opened.{close-can}
 use Rattle.drafts.specs.declared.Place.{Place}
 use Rattle.drafts.specs.Drafting.{Desk, Drafted, Leads, whole, readAll}
-use Rattle.reading.specs.declared.Tested.the-variants.{Passed}
-use Rattle.reading.specs.Tests.{textTests}
-use Rattle.reading.specs.Clearing.{Bare, deskIn, restZeroed}
-use Rattle.reading.specs.Finishing.{Finished, finishing, tidyClauses, tidyMoving, turned, laidOut, countedOut, countsAt, finished, CanFinish}
-use Rattle.reading.proofs.Tests.{passed-read}
-use Rattle.reading.proofs.Cleared.{bare-back, bare-back-from}
+use Rattle.reading_end.specs.declared.Tested.the-variants.{Passed}
+use Rattle.reading_end.specs.Tests.{textTests}
+use Rattle.reading_end.specs.Clearing.{deskIn, restZeroed}
+use Rattle.reading_end.specs.Finishing.{Finished, finishing, tidyClauses, tidyMoving, turned, laidOut, countedOut, countsAt, finished, CanFinish}
+use Rattle.reading.specs.Bare.{Bare}
+use Rattle.reading.proofs.Texts.{passed-read}
+use Rattle.reading.proofs.Bare.{bare-back, bare-back-from}
 use Rattle.reading.proofs.Fresh.{fresh-valid, fresh-held, fresh-rounds, fresh-can-round, fresh-ready, freshCounts, fresh-walking, fresh-outcome}
 
 -- what is asked of tables is asked of those that are equal to them

@@ -1,4 +1,2 @@
--- What a reading does to the lent tables, call by call.
-pub mod Tests
-pub mod Clearing
-pub mod Finishing
+-- What a reading asks of the tables that it has cleared.
+pub mod Bare

@@ -1,155 +1,15 @@
 // Clause text read into the ten lent tables: they are cleared, a draft is made in some of them, and the others are worked out from it.
 ghost use mathlib.Core.Path.{_≡_};
-ghost use Prim.Native.Nat.{_≤_};
-ghost use lib.ListN.{length};
 ghost use Rattle.written.specs.Limits.{narrow};
 ghost use Rattle.written.specs.Reading.{readText};
 ghost use Rattle.written.specs.Tables.{lent};
 ghost use Rattle.written.specs.Outcomes.{readLeaves, readingOf};
-ghost use Rattle.machine.specs.Tallies.{tallies};
-ghost use Rattle.machine.specs.Moving.{fixed, moving};
-ghost use Rattle.drafts.specs.Drafting.{desk};
-ghost use Rattle.reading.specs.Tests.{textTests};
-ghost use Rattle.reading.specs.Clearing.{Bare, wiped, others, wipedOthers, restZeroed};
-ghost use Rattle.reading.specs.Finishing.{finishing, finished, CanFinish};
+ghost use Rattle.reading.specs.Bare.{Bare};
 use drafts::Ended;
-use drafts::Place;
-use written::Counts;
+use reading_end::Tested;
 use written::Fault;
 use written::Read;
 use written::Reason;
-
-// What the tests of a text as a whole come to.
-enum Tested {
-    Passed,
-    Failed(Reason),
-}
-
-// The tests of a text as a whole, in their order: 2, 3.
-fn verdict(text: &[u8]) -> Tested
-    ensures { λ r. ⌜ r ≡ textTests narrow (now (text .entry)) ⌝ }
-{
-    if text.len() > 65536 {
-        return Tested::Failed(Reason::LongText);
-    }
-    if scan::cut_off(text) {
-        return Tested::Failed(Reason::OpenEnd);
-    }
-    Tested::Passed
-}
-
-// ---- clearing
-
-// The tables of a draft to 0: its stamps stand in the break counts, its slots in the places.
-pub fn clear_draft(
-    names: &mut [u64],
-    starts: &mut [u16],
-    literals: &mut [u16],
-    stamps: &mut [u16],
-    slots: &mut [u16],
-)
-    ensures { λ _. ⌜ desk (now (names .exit)) (now (starts .exit)) (now (literals .exit)) (now (stamps .exit)) (now (slots .exit))
-        ≡ wiped narrow (desk (now (names .entry)) (now (starts .entry)) (now (literals .entry)) (now (stamps .entry)) (now (slots .entry))) ⌝ }
-{
-    tables::clear_names(names, 2048);
-    tables::clear(starts, 8193);
-    tables::clear(literals, 16384);
-    tables::clear(stamps, 2048);
-    tables::clear(slots, 8192);
-}
-
-// The tables that a draft does not use, to 0.
-pub fn clear_others(
-    values: &mut [u32],
-    occurrence_starts: &mut [u16],
-    occurrences: &mut [u16],
-    trues: &mut [u16],
-    uncovered: &mut [u16],
-)
-    ensures { λ _. ⌜ others (now (values .exit)) (now («occurrence_starts» .exit)) (now (occurrences .exit)) (now (trues .exit)) (now (uncovered .exit))
-        ≡ wipedOthers narrow (others (now (values .entry)) (now («occurrence_starts» .entry)) (now (occurrences .entry)) (now (trues .entry)) (now (uncovered .entry))) ⌝ }
-{
-    tables::clear_words(values, 64);
-    tables::clear(occurrence_starts, 4097);
-    tables::clear(occurrences, 16384);
-    tables::clear(trues, 8192);
-    tables::clear(uncovered, 8192);
-}
-
-// The entries from a place up to n become 0.
-fn clear_rest(table: &mut [u16], from: usize, n: usize)
-    requires { ⌜ (from ≤ n) × (n ≤ length (now table)) ⌝ }
-    ensures { λ _. ⌜ now (table .exit) ≡ restZeroed n from (now (table .entry)) ⌝ }
-{
-    let mut i = from;
-    while i < n {
-        table[i] = 0;
-        i += 1;
-    }
-}
-
-// ---- a whole draft
-
-// What a draft used on its way is cleared, its literals are turned round, and the counts worked out for values of 0.
-fn finish(
-    p: Place,
-    values: &[u32],
-    starts: &[u16],
-    literals: &mut [u16],
-    occurrence_starts: &mut [u16],
-    occurrences: &mut [u16],
-    trues: &mut [u16],
-    breaks: &mut [u16],
-    uncovered: &mut [u16],
-    places: &mut [u16],
-) -> Counts
-    requires { ⌜ CanFinish 65536 narrow p (fixed (now starts) (now literals) (now «occurrence_starts») (now occurrences))
-        (moving (now values) (tallies (now trues) (now breaks) (now uncovered) (now places) 0)) ⌝ }
-    ensures { λ r. ⌜ finishing r (fixed (now (starts .entry)) (now (literals .exit)) (now («occurrence_starts» .exit)) (now (occurrences .exit)))
-        (moving (now (values .entry)) (tallies (now (trues .exit)) (now (breaks .exit)) (now (uncovered .exit)) (now (places .exit)) (r .uncovered)))
-        ≡ finished narrow p (fixed (now (starts .entry)) (now (literals .entry)) (now («occurrence_starts» .entry)) (now (occurrences .entry)))
-        (moving (now (values .entry)) (tallies (now (trues .entry)) (now (breaks .entry)) (now (uncovered .entry)) (now (places .entry)) 0)) ⌝ }
-{
-    let terms = p.terms;
-    let clauses = p.clauses;
-    clear_rest(literals, p.from, 16384);
-    tables::clear(breaks, 2048); // the stamps
-    tables::clear(places, 8192); // the slots
-    let n = Counts {
-        terms: terms as u32,
-        clauses: clauses as u32,
-        literals: p.from as u32,
-        uncovered: 0,
-    };
-    rounds::turn_round(
-        n,
-        starts,
-        literals,
-        occurrence_starts,
-        occurrences,
-        uncovered,
-    );
-    let number = recounts::count_afresh(
-        terms,
-        clauses,
-        values,
-        starts,
-        literals,
-        trues,
-        breaks,
-        uncovered,
-        places,
-    );
-    recounts::close_all(clauses, trues, places);
-    Counts {
-        terms: n.terms,
-        clauses: n.clauses,
-        literals: n.literals,
-        uncovered: number as u32,
-    }
-}
-
-// ---- a reading
 
 // A text read into full tables of 0: they are 0 again where it is refused.
 fn read_cleared(
@@ -174,7 +34,7 @@ fn read_cleared(
         ≡ readLeaves narrow (lent (now (names .entry)) (now (values .entry)) (now (starts .entry)) (now (literals .entry))
         (now («occurrence_starts» .entry)) (now (occurrences .entry)) (now (trues .entry)) (now (breaks .entry)) (now (uncovered .entry)) (now (places .entry))) (readText narrow (now (text .entry))) .tables) ⌝ }
 {
-    match verdict(text) {
+    match reading_end::verdict(text) {
         Tested::Failed(reason) => {
             return Read::Refused(Fault {
                 reason: reason,
@@ -185,11 +45,11 @@ fn read_cleared(
     }
     match drafts::draft(text, names, starts, literals, breaks, places) {
         Ended::Refused(fault) => {
-            clear_draft(names, starts, literals, breaks, places);
+            reading_end::clear_draft(names, starts, literals, breaks, places);
             return Read::Refused(fault);
         }
         Ended::Whole(p) => {
-            let n = finish(
+            let n = reading_end::finish(
                 p,
                 values,
                 starts,
@@ -244,8 +104,8 @@ pub fn read(
             line: 0,
         });
     }
-    clear_draft(names, starts, literals, breaks, places);
-    clear_others(values, occurrence_starts, occurrences, trues, uncovered);
+    reading_end::clear_draft(names, starts, literals, breaks, places);
+    reading_end::clear_others(values, occurrence_starts, occurrences, trues, uncovered);
     read_cleared(
         text,
         names,

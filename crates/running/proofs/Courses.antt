@@ -23,8 +23,8 @@ use Rattle.inputs.specs.declared.Outset.the-variants.{Long, Refused, Begins}
 use Rattle.inputs.specs.Outsets.{outsetOf}
 use Rattle.inputs.proofs.Courses.{Says, outset-says}
 use Rattle.drafts.specs.Drafting.{Desk}
-use Rattle.reading.specs.Clearing.{Others, wiped, wipedOthers, deskIn, othersIn}
-use Rattle.reading.proofs.Cleared.{both-wiped, blanked-is}
+use Rattle.reading_end.specs.Clearing.{Others, wiped, wipedOthers, deskIn, othersIn}
+use Rattle.reading_end.proofs.Cleared.{both-wiped, blanked-is}
 use Rattle.reports.specs.Pages.{page, put, CanPut}
 use Rattle.solving.specs.Running.{answered, ended, CanRun, CanRead}
 use Rattle.solving.proofs.Ends.{ended-by, refusal-room}

@@ -33,8 +33,8 @@ fn begin(
 {
     match inputs::set_out(input) {
         Outset::Long(e) => {
-            reading::clear_draft(names, starts, literals, breaks, places);
-            reading::clear_others(values, occurrence_starts, occurrences, trues, uncovered);
+            reading_end::clear_draft(names, starts, literals, breaks, places);
+            reading_end::clear_others(values, occurrence_starts, occurrences, trues, uncovered);
             reports::refusal(out, e)
         }
         Outset::Refused(e) => reports::refusal(out, e),

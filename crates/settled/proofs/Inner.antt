@@ -4,7 +4,7 @@ use Rattle.machine.specs.Uncovered.{Uncovered}
 use Rattle.machine.specs.Tallies.{Tallies}
 use Rattle.machine.specs.Moving.{Moving}
 use Rattle.drafts.specs.Drafting.{Desk}
-use Rattle.reading.specs.Clearing.{Others}
+use Rattle.reading_end.specs.Clearing.{Others}
 use Rattle.reports.specs.Pages.{Page}
 use Rattle.written.specs.Program.{Ran}
 use Rattle.settled.specs.Outcomes.{Public, Inner}
@@ -29,8 +29,8 @@ use Rattle.flips.proofs.flip_term as flip-term
 use Rattle.flips.proofs.flip_all as flip-all
 use Rattle.choosing.proofs.chosen_from as chosen-from
 use Rattle.walks.proofs.walk_tested as walk-tested
-use Rattle.reading.proofs.clear_draft as clear-draft
-use Rattle.reading.proofs.clear_others as clear-others
+use Rattle.reading_end.proofs.clear_draft as clear-draft
+use Rattle.reading_end.proofs.clear_others as clear-others
 use Rattle.reports.proofs.refusal as refusal
 use Rattle.reports.proofs.report as report
 use Rattle.solving.proofs.read_on as read-on

@@ -3,7 +3,7 @@ use mathlib.Core.Path.{refl, _∙_}
 use borrow.Author.Needs.{needs}
 use Rattle.written.specs.Limits.{narrow}
 use Rattle.machine.proofs.Tests.{said-no, said-yes}
-use Rattle.reading.proofs.Cleared.{both-wiped}
+use Rattle.reading_end.proofs.Cleared.{both-wiped}
 use Rattle.reading.proofs.Decided.{short-answer, short-tables, now-bare, read-answer, read-tables}
 use Rattle.reading.proofs.read.Statement.{statement}
 use Rattle.reading.proofs.read.Tie as tie

@@ -1,12 +1,12 @@
--- `reading::clear_rest` meets its contract: a loop over the entries from a place on. Assumes nothing.
+-- `reading_end::clear_rest` meets its contract: a loop over the entries from a place on. Assumes nothing.
 use mathlib.Core.Path.{_≡_, refl}
 use Prim.Native.Nat.{_-_, _≤_}
 use native.Mathlib.Omega.{arith}
 use lib.ListN.{length, length-set}
 use borrow.Author.Needs.{needs}
-use Rattle.reading.proofs.Cleared.{passedBy, rest-none, rest-more, rest-end}
-use Rattle.reading.proofs.clear_rest.Statement.{statement}
-use Rattle.reading.proofs.clear_rest.Tie as tie
+use Rattle.reading_end.proofs.Cleared.{passedBy, rest-none, rest-more, rest-end}
+use Rattle.reading_end.proofs.clear_rest.Statement.{statement}
+use Rattle.reading_end.proofs.clear_rest.Tie as tie
 
 abbrev Inv-loop : tie.InvT-loop
 Inv-loop table₀ from n i₀ table i = (from ≤ i) × (i ≤ n) × (table ≡ passedBy n from i table₀) × (length table ≡ length table₀)

@@ -1,23 +1,16 @@
 -- Tables made 0: all of them, those of a draft, the others, and one from a place on. Assumes nothing.
-use mathlib.Core.Path.{_≡_}
-use mathlib.Core.Bool.{true}
 use mathlib.Core.List.{List}
 use Prim.Native.Nat.{ℕ}
 use lib.ListN.{take}
 use Rattle.written.specs.Lists.{padded}
 use Rattle.written.specs.Limits.{Limits}
-use Rattle.written.specs.Tables.{Tables, each, fullSizes, areFull, over, cleared}
+use Rattle.written.specs.Tables.{Tables, each, fullSizes, over}
 use Rattle.machine.specs.Passes.{zeroed}
 use Rattle.drafts.specs.Drafting.{Desk, desk}
 
 -- the ten tables, each in its full size
 unfoldable pub blanked : Limits → Tables → Tables
 blanked lim t = each zeroed (fullSizes lim) t
-
--- full tables of nothing but 0
-pub record Bare (lim : Limits) (t : Tables) : Type 0 where
-  pub full : areFull lim t ≡ true
-  pub zero : cleared lim t ≡ t
 
 -- the tables in which a draft is made: stamps stand in the break counts, slots in the places
 abbrev pub deskIn : Tables → Desk

@@ -1,10 +1,10 @@
--- `reading::finish` meets its contract: it is put together from its calls. Assumes nothing.
+-- `reading_end::finish` meets its contract: it is put together from its calls. Assumes nothing.
 use mathlib.Core.Path.{_∙_}
 use native.Mathlib.Omega.{arith}
 use borrow.Author.Needs.{needs}
-use Rattle.reading.proofs.Finished.{can-turn, can-recount, can-close, number-low, is-finished}
-use Rattle.reading.proofs.finish.Statement.{statement}
-use Rattle.reading.proofs.finish.Tie as tie
+use Rattle.reading_end.proofs.Finished.{can-turn, can-recount, can-close, number-low, is-finished}
+use Rattle.reading_end.proofs.finish.Statement.{statement}
+use Rattle.reading_end.proofs.finish.Tie as tie
 
 turn-round-requires : tie.Need-turn-round-requires
 turn-round-requires c κs =

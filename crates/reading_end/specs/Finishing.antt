@@ -10,7 +10,7 @@ use Rattle.machine.specs.Moving.{Fixed, fixed, Moving, moving, view}
 use Rattle.machine.specs.Passes.{zeroed, closed, CanClose, recounted, CanRecount}
 use Rattle.machine.specs.Filling.{roundsIn, CanRound}
 use Rattle.drafts.specs.declared.Place.{Place}
-use Rattle.reading.specs.Clearing.{restZeroed}
+use Rattle.reading_end.specs.Clearing.{restZeroed}
 
 -- what finishing gives: the counts, and all tables but the names
 pub record Finished : Type 0 where

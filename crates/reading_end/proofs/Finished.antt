@@ -10,8 +10,8 @@ use Rattle.machine.specs.Passes.{zeroed, rewritten, restPlace, closed, CanClose
 use Rattle.machine.specs.Filling.{roundsIn, CanRound}
 use Rattle.machine.proofs.Calls.{is-closed}
 use Rattle.drafts.specs.declared.Place.{Place}
-use Rattle.reading.specs.Clearing.{restZeroed}
-use Rattle.reading.specs.Finishing.{finishing, tidyClauses, tidyMoving, turned, laidOut, countedOut, countsAt, finished, CanFinish}
+use Rattle.reading_end.specs.Clearing.{restZeroed}
+use Rattle.reading_end.specs.Finishing.{finishing, tidyClauses, tidyMoving, turned, laidOut, countedOut, countsAt, finished, CanFinish}
 
 -- what was cleared
 module _ (top : ℕ) (lim : Limits) (p : Place) (x : Fixed) (w : Moving) (h : CanFinish top lim p x w) {ls bs ps : List ℕ}

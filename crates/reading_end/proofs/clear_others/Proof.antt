@@ -1,10 +1,10 @@
--- `reading::clear_others` meets its contract: it is put together from its calls. Assumes nothing.
+-- `reading_end::clear_others` meets its contract: it is put together from its calls. Assumes nothing.
 use borrow.Author.Needs.{needs}
 use Rattle.words.specs.Words.{wordCount}
 use Rattle.written.specs.Tables.{sizes, fullSizes}
-use Rattle.reading.specs.Clearing.{others, wipedOthers}
-use Rattle.reading.proofs.clear_others.Statement.{statement}
-use Rattle.reading.proofs.clear_others.Tie as tie
+use Rattle.reading_end.specs.Clearing.{others, wipedOthers}
+use Rattle.reading_end.proofs.clear_others.Statement.{statement}
+use Rattle.reading_end.proofs.clear_others.Tie as tie
 
 returns : tie.Need-returns
 unfolding wipedOthers fullSizes sizes wordCount

@@ -1,11 +1,10 @@
 -- What the tests of a text as a whole say of its reading. Assumes nothing.
-use mathlib.Core.Path.{_≡_, refl, sym, subst, _∙_}
-use mathlib.Core.Bool.{Bool, true, false}
+use mathlib.Core.Path.{_≡_, refl, subst}
 use mathlib.Core.List.{List}
-use Prim.Native.Nat.{ℕ, _≤_, _<_}
+use Prim.Native.Nat.{ℕ, _≤_}
 use lib.ListN.{length}
 use lib.Dec.{ltb}
-use borrow.Author.Tests.{ltb-false, lt-ltb, le-ltb}
+use borrow.Author.Tests.{ltb-false}
 use Rattle.scan.specs.Scan.{openEnd}
 use Rattle.written.specs.declared.Reason.{Reason}
 use Rattle.written.specs.declared.Reason.the-variants.{LongText, OpenEnd}
@@ -14,25 +13,9 @@ use Rattle.written.specs.Reasons.{fault}
 use Rattle.written.specs.Reading.{refused, readText}
 use Rattle.drafts.specs.Drafting.{readAll}
 use Rattle.laws.proofs.Basics.{by-cases}
-use Rattle.reading.specs.declared.Tested.{Tested}
-use Rattle.reading.specs.declared.Tested.the-variants.{Passed, Failed}
-use Rattle.reading.specs.Tests.{textTests}
-
--- what they come to, by each way through them
-module _ (lim : Limits) (text : List ℕ) where
-  pub tests-long : lim .text < length text → Failed LongText ≡ textTests lim text
-  unfolding textTests
-  tests-long long = rw (lt-ltb (lim .text) (length text) long) refl
-
-  -- cut was answered to whether the text ends inside a line
-  module _ (short : length text ≤ lim .text) {cut : Bool} (asked : cut ≡ openEnd text) where
-    pub tests-open : cut ≡ true → Failed OpenEnd ≡ textTests lim text
-    unfolding textTests
-    tests-open h = rw (le-ltb (lim .text) (length text) short, sym asked ∙ h) refl
-
-    pub tests-passed : cut ≡ false → Passed ≡ textTests lim text
-    unfolding textTests
-    tests-passed h = rw (le-ltb (lim .text) (length text) short, sym asked ∙ h) refl
+use Rattle.reading_end.specs.declared.Tested.{Tested}
+use Rattle.reading_end.specs.declared.Tested.the-variants.{Passed, Failed}
+use Rattle.reading_end.specs.Tests.{textTests}
 
 module _ (lim : Limits) (text : List ℕ) where
   -- what the tests say by what they come to

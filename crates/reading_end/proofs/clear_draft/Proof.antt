@@ -1,10 +1,10 @@
--- `reading::clear_draft` meets its contract: it is put together from its calls. Assumes nothing.
+-- `reading_end::clear_draft` meets its contract: it is put together from its calls. Assumes nothing.
 use borrow.Author.Needs.{needs}
 use Rattle.written.specs.Tables.{sizes, fullSizes}
 use Rattle.drafts.specs.Drafting.{desk}
-use Rattle.reading.specs.Clearing.{wiped}
-use Rattle.reading.proofs.clear_draft.Statement.{statement}
-use Rattle.reading.proofs.clear_draft.Tie as tie
+use Rattle.reading_end.specs.Clearing.{wiped}
+use Rattle.reading_end.proofs.clear_draft.Statement.{statement}
+use Rattle.reading_end.proofs.clear_draft.Tie as tie
 
 returns : tie.Need-returns
 unfolding wiped fullSizes sizes

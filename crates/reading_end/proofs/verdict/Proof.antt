@@ -1,9 +1,9 @@
--- `reading::verdict` meets its contract: each way out has the tests that lead there. Assumes nothing.
+-- `reading_end::verdict` meets its contract: each way out has the tests that lead there. Assumes nothing.
 use borrow.Author.Needs.{needs}
 use Rattle.written.specs.Limits.{narrow}
-use Rattle.reading.proofs.Tests.{tests-long, tests-open, tests-passed}
-use Rattle.reading.proofs.verdict.Statement.{statement}
-use Rattle.reading.proofs.verdict.Tie as tie
+use Rattle.reading_end.proofs.Tests.{tests-long, tests-open, tests-passed}
+use Rattle.reading_end.proofs.verdict.Statement.{statement}
+use Rattle.reading_end.proofs.verdict.Tie as tie
 
 returns : tie.Need-returns
 returns c = tests-long narrow _ (c .if1 .taken)
