@@ -1,10 +1,13 @@
 -- The statements of what one crate lends to another. Assumes nothing.
+use Prim.Native.Nat.{ℕ}
 use mathlib.Core.Path.{refl, ap}
+use mathlib.Core.List.{List}
 use Rattle.machine.specs.Uncovered.{Uncovered}
 use Rattle.machine.specs.Tallies.{Tallies}
 use Rattle.machine.specs.Moving.{Moving}
 use Rattle.drafts.specs.Drafting.{Desk}
 use Rattle.reading_end.specs.Clearing.{Others}
+use Rattle.reading_end.specs.Finishing.{Finished}
 use Rattle.reports.specs.Pages.{Page}
 use Rattle.written.specs.Program.{Ran}
 use Rattle.settled.specs.Outcomes.{Public, Inner}
@@ -29,8 +32,10 @@ use Rattle.flips.proofs.flip_term as flip-term
 use Rattle.flips.proofs.flip_all as flip-all
 use Rattle.choosing.proofs.chosen_from as chosen-from
 use Rattle.walks.proofs.walk_tested as walk-tested
+use Rattle.reading_end.proofs.verdict as verdict
 use Rattle.reading_end.proofs.clear_draft as clear-draft
 use Rattle.reading_end.proofs.clear_others as clear-others
+use Rattle.reading_end.proofs.finish as finish
 use Rattle.reports.proofs.refusal as refusal
 use Rattle.reports.proofs.report as report
 use Rattle.solving.proofs.read_on as read-on
@@ -97,11 +102,27 @@ chosen-from-settled M 𝓤 H A mem run κs a g = record { one-outcome = λ x y. 
 pub walk-tested-settled : Inner walk-tested.ended (λ M. walk-tested.clauses)
 walk-tested-settled M 𝓤 H A mem run κs a g = record { one-outcome = λ x y. all-three 𝓤 (λ r p q. same (meet (p .0) (q .0)) (ap (λ t. (tt, (tt, five t tt))) (meet (p .1) (q .1)))) }
 
+pub verdict-settled : Public verdict.ended (λ M. verdict.clauses)
+verdict-settled M 𝓤 H A mem run κs a g = record { asks-nothing = refl; one-outcome = λ x y. both 𝓤 (λ p q. same (meet p q) refl) }
+
 pub clear-draft-settled : Public clear-draft.ended (λ M. clear-draft.clauses)
 clear-draft-settled M 𝓤 H A mem run κs a g = record { asks-nothing = refl; one-outcome = λ x y. both 𝓤 (λ p q. same refl (ap (λ (w : Desk). (w .names, (w .starts, (w .literals, (w .stamps, (w .slots, tt)))))) (meet p q))) }
 
 pub clear-others-settled : Public clear-others.ended (λ M. clear-others.clauses)
 clear-others-settled M 𝓤 H A mem run κs a g = record { asks-nothing = refl; one-outcome = λ x y. both 𝓤 (λ p q. same refl (ap (λ (w : Others). (w .values, (w .occurrenceStarts, (w .occurrences, (w .trues, (w .uncovered, tt)))))) (meet p q))) }
+
+-- what is left behind the tables of the counts, which come last
+abbrev counted : Moving → List ℕ × (List ℕ × (List ℕ × (List ℕ × Unit {0})))
+counted m = (m .tallies .trues, (m .tallies .breaks, (m .tallies .uncovered .list, (m .tallies .uncovered .places, tt))))
+
+pub finish-settled : Inner finish.ended (λ M. finish.clauses)
+finish-settled M 𝓤 H A mem run κs a g =
+    record {
+      one-outcome = λ x y. all-three 𝓤
+          (λ r p q. let e = meet p q in
+          same (ap (λ (w : Finished). w .counts) e)
+          (ap (λ (w : Finished). (tt, (tt, (tt, (w .clauses .literals, (w .clauses .occurrenceStarts, (w .clauses .occurrences, counted (w .moved)))))))) e));
+    }
 
 pub refusal-settled : Inner refusal.ended (λ M. refusal.clauses)
 refusal-settled M 𝓤 H A mem run κs a g = record { one-outcome = λ x y. all-three 𝓤 (λ r p q. let e = meet p q in same (ap (λ s. s .at) e) (ap (λ (s : Page). (s .buffer, (tt, tt))) e)) }
