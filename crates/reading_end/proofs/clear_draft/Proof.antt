@@ -16,7 +16,18 @@ returns c =
     let at0 = at1 .before .before .before .before in
     λ i. desk (at0 .clear-names .ensures i) (at1 .clear .ensures i) (at2 .clear2 .ensures i) (at3 .clear3 .ensures i) (at4 .clear4 .ensures i)
 
+same-length : tie.Need-same-length
+same-length c =
+    let at1 = c .before .before .before .before .before .before .before .before .before .before .before .before .before .before in
+    at1 .before .before .before .names .given
+
 pub clear-draft-spec : {M : Type 1} → statement M
 clear-draft-spec =
     tie.close
-    (tie.spec (λ c κs. search needs) (λ c κs. search needs) (λ c κs. search needs) (λ c κs. search needs) (λ c κs. search needs) (λ c. search needs) (λ c. search needs) (λ c. search needs) (λ c. search needs) (λ c. search needs) returns)
+    (tie.spec (λ c κs. search needs) (λ c κs. search needs) (λ c κs. search needs) (λ c κs. search needs) (λ c κs. search needs)
+    same-length
+    (λ c. c .before .before .before .before .before .before .before .before .before .before .before .before .before .starts .given)
+    (λ c. c .before .before .before .before .before .before .before .before .before .literals .given)
+    (λ c. c .before .before .before .before .before .stamps .given)
+    (λ c. c .before .slots .given)
+    returns)

@@ -16,7 +16,18 @@ returns c =
     let at0 = at1 .before .before .before .before in
     λ i. others (at0 .clear-words .ensures i) (at1 .clear .ensures i) (at2 .clear2 .ensures i) (at3 .clear3 .ensures i) (at4 .clear4 .ensures i)
 
+same-length : tie.Need-same-length
+same-length c =
+    let at1 = c .before .before .before .before .before .before .before .before .before .before .before .before .before .before in
+    at1 .before .before .before .values .given
+
 pub clear-others-spec : {M : Type 1} → statement M
 clear-others-spec =
     tie.close
-    (tie.spec (λ c κs. search needs) (λ c κs. search needs) (λ c κs. search needs) (λ c κs. search needs) (λ c κs. search needs) (λ c. search needs) (λ c. search needs) (λ c. search needs) (λ c. search needs) (λ c. search needs) returns)
+    (tie.spec (λ c κs. search needs) (λ c κs. search needs) (λ c κs. search needs) (λ c κs. search needs) (λ c κs. search needs)
+    same-length
+    (λ c. c .before .before .before .before .before .before .before .before .before .before .before .before .before .occurrence-starts .given)
+    (λ c. c .before .before .before .before .before .before .before .before .before .occurrences .given)
+    (λ c. c .before .before .before .before .before .trues .given)
+    (λ c. c .before .uncovered .given)
+    returns)
