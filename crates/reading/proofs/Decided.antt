@@ -1,6 +1,6 @@
 -- Whether the tables are full decides a reading; once they are cleared, it does not depend on what stood in them. Assumes nothing.
 use mathlib.Core.Path.{_≡_, refl, ap, sym, _∙_, subst}
-use mathlib.Core.Bool.{true, false}
+use mathlib.Core.Bool.{Bool, true, false, not}
 use mathlib.Core.List.{List}
 use Prim.Native.Nat.{ℕ}
 use Rattle.written.specs.declared.Reason.the-variants.{ShortTable}
@@ -10,13 +10,15 @@ use Rattle.written.specs.Limits.{Limits}
 use Rattle.written.specs.Reasons.{fault}
 use Rattle.written.specs.Clauses.{asRead}
 use Rattle.written.specs.Reading.{Reading, accepted, refused, readText}
-use Rattle.written.specs.Tables.{Tables, areFull, cleared, countsOf}
+use Rattle.written.specs.Tables.{Tables, lent, areFull, cleared, countsOf}
 use Rattle.written.specs.Outcomes.{Leaves, readLeaves, readingOf}
 use Rattle.laws.proofs.Holding.{cleared-full, cleared-again, holding-cleared}
 use Rattle.laws.proofs.Readings.{reading-valid}
 use Rattle.laws.proofs.ReadCalls.{short-reading, full-reading}
-use Rattle.reading_end.specs.Clearing.{blanked}
-use Rattle.reading_end.proofs.Cleared.{blanked-is}
+use Rattle.machine.proofs.Tests.{said-no, said-yes}
+use Rattle.drafts.specs.Drafting.{Desk}
+use Rattle.reading_end.specs.Clearing.{blanked, deskIn, wiped, Others, othersIn, wipedOthers}
+use Rattle.reading_end.proofs.Cleared.{both-wiped, blanked-is}
 use Rattle.reading.specs.Bare.{Bare}
 
 -- full tables, and u once they are cleared
@@ -24,16 +26,16 @@ module _ (lim : Limits) (t : Tables) (full : areFull lim t ≡ true) {u : Tables
   cleared-now : u ≡ cleared lim t
   cleared-now = e ∙ blanked-is lim t full
 
-  pub now-bare : Bare lim u
+  now-bare : Bare lim u
   now-bare = subst (Bare lim) (sym cleared-now) (record { full = cleared-full lim t full; zero = cleared-again lim t })
 
 module _ (lim : Limits) (text : List ℕ) (t : Tables) where
   -- a table is too short: nothing changes
   module _ (h : areFull lim t ≡ false) where
-    pub short-answer : R.Refused (fault ShortTable) ≡ readingOf lim text t .answer
+    short-answer : R.Refused (fault ShortTable) ≡ readingOf lim text t .answer
     short-answer = sym (ap (λ (o : Leaves Read). o .answer) (short-reading lim text t h))
 
-    pub short-tables : t ≡ readingOf lim text t .tables
+    short-tables : t ≡ readingOf lim text t .tables
     short-tables = sym (ap (λ (o : Leaves Read). o .tables) (short-reading lim text t h))
 
   -- none is
@@ -50,8 +52,32 @@ module _ (lim : Limits) (text : List ℕ) (t : Tables) where
         ap (λ (v : Tables). readLeaves lim v (readText lim text)) (cleared-now lim t full e) ∙ leaves-cleared (readText lim text) refl
         ∙ sym (full-reading lim text t full)
 
-    pub read-answer : {r : Read} → r ≡ readLeaves lim u (readText lim text) .answer → r ≡ readingOf lim text t .answer
+    read-answer : {r : Read} → r ≡ readLeaves lim u (readText lim text) .answer → r ≡ readingOf lim text t .answer
     read-answer q = q ∙ ap (λ (o : Leaves Read). o .answer) decided
 
-    pub read-tables : {v : Tables} → v ≡ readLeaves lim u (readText lim text) .tables → v ≡ readingOf lim text t .tables
+    read-tables : {v : Tables} → v ≡ readLeaves lim u (readText lim text) .tables → v ≡ readingOf lim text t .tables
     read-tables q = q ∙ ap (λ (o : Leaves Read). o .tables) decided
+
+-- ---- a reading put together from what its calls gave, as they gave it
+
+-- the ten tables, those of a draft and the others
+abbrev joined : Desk → Others → Tables
+joined w o =
+    lent (w .names) (o .values) (w .starts) (w .literals) (o .occurrenceStarts) (o .occurrences) (o .trues) (w .stamps) (o .uncovered) (w .slots)
+
+-- a was answered to whether the tables are full
+module _ (lim : Limits) (t : Tables) {a : Bool} (asked : a ≡ areFull lim t) where
+  pub was-short : (text : List ℕ) → not a ≡ true → (R.Refused (fault ShortTable) ≡ readingOf lim text t .answer) × (t ≡ readingOf lim text t .tables)
+  was-short text h = (short-answer lim text t (said-no h asked), short-tables lim text t (said-no h asked))
+
+  -- what was cleared
+  module _ (h : not a ≡ false) {w : Desk} (p : w ≡ wiped lim (deskIn t)) {o : Others} (q : o ≡ wipedOthers lim (othersIn t)) where
+    pub is-bare : Bare lim (joined w o)
+    is-bare = now-bare lim t (said-yes h asked) (both-wiped lim t p q)
+
+    -- what was read
+    pub was-read : (text : List ℕ) {r : Read} {v : Tables}
+        → (r ≡ readLeaves lim (joined w o) (readText lim text) .answer) × (v ≡ readLeaves lim (joined w o) (readText lim text) .tables)
+        → (r ≡ readingOf lim text t .answer) × (v ≡ readingOf lim text t .tables)
+    was-read text e =
+        (read-answer lim text t (said-yes h asked) (both-wiped lim t p q) (e .0), read-tables lim text t (said-yes h asked) (both-wiped lim t p q) (e .1))

@@ -1,5 +1,5 @@
 -- Tables that were cleared: a draft can be begun in them, and where a text is refused they are 0 still, or cleared again. Assumes nothing.
-use mathlib.Core.Path.{_≡_, ap, sym, _∙_}
+use mathlib.Core.Path.{_≡_, ap, sym, _∙_, subst}
 use mathlib.Core.List.{List}
 use Prim.Native.Nat.{ℕ, _+_, _≤_, _<_}
 use native.Mathlib.Omega.{arith}
@@ -14,7 +14,10 @@ use Rattle.written.specs.Tables.{Tables, lent, sizes, fullSizes}
 use Rattle.written.specs.Outcomes.{readLeaves}
 use Rattle.laws.proofs.Each.Table.{Names, Starts, Literals, Breaks, Places}
 use Rattle.laws.proofs.Holding.{full-at}
-use Rattle.drafts.specs.Drafting.{Desk, desk, Beyond, Blank, readAll}
+use Rattle.drafts.specs.declared.Ended.{Ended}
+use Rattle.drafts.specs.declared.Ended.the-variants as E
+use Rattle.drafts.specs.Drafting.{Desk, desk, Beyond, Blank, Drawn, readAll}
+use Rattle.reading_end.specs.declared.Tested.{Tested}
 use Rattle.reading_end.specs.declared.Tested.the-variants.{Passed, Failed}
 use Rattle.reading_end.specs.Tests.{textTests}
 use Rattle.reading_end.specs.Clearing.{deskIn, wiped}
@@ -76,3 +79,27 @@ module _ (lim : Limits) (text : List ℕ) (t : Tables) (b : Bare lim t) (passed 
   pub refused-answer : {e : Fault} → readAll lim text ≡ refused e → R.Refused e ≡ readLeaves lim t (readText lim text) .answer
   unfolding readLeaves
   refused-answer h = sym (ap (λ k. readLeaves lim t k .answer) (passed-read lim text passed ∙ h))
+
+-- ---- put together from what the calls gave, as they gave it
+
+-- v was answered to the tests of the text
+module _ (lim : Limits) (text : List ℕ) (t : Tables) (b : Bare lim t) {v : Tested} (asked : v ≡ textTests lim text) where
+  pub was-failed : {r : Reason} → v ≡ Failed r
+      → (R.Refused (fault r) ≡ readLeaves lim t (readText lim text) .answer) × (t ≡ readLeaves lim t (readText lim text) .tables)
+  was-failed h = (failed-answer lim text t b (sym asked ∙ h), failed-tables lim text t b (sym asked ∙ h))
+
+  module _ (told : v ≡ Passed) (H : ℕ) (slots-fit : H + lim .terms + 1 ≤ lim .clauses) where
+    pub draft-can : 0 < H → Blank H lim text (deskIn t)
+    draft-can = can-draft lim text t b (sym asked ∙ told) H slots-fit
+
+    -- the draft ended by z, in the tables w
+    pub was-refused : (w : Desk) {z : Ended} {e : Fault} → Drawn H lim text (deskIn t) w z → z ≡ E.Refused e
+        → length (w .names) ≡ length (t .names) → length (w .starts) ≡ length (t .starts) → length (w .literals) ≡ length (t .literals)
+        → length (w .stamps) ≡ length (t .breaks) → length (w .slots) ≡ length (t .places) → {d : Desk} → d ≡ wiped lim w
+        → (R.Refused e ≡ readLeaves lim t (readText lim text) .answer)
+        × (lent (d .names) (t .values) (d .starts) (d .literals) (t .occurrenceStarts) (t .occurrences) (t .trues) (d .stamps) (t .uncovered) (d .slots)
+        ≡ readLeaves lim t (readText lim text) .tables)
+    was-refused w drawn ended en es el em eo cleared =
+        let h = sym asked ∙ told in
+        let d = subst (Drawn H lim text (deskIn t) w) ended drawn in
+        (refused-answer lim text t b h H slots-fit (d .0), refused-tables lim text t b h H slots-fit w (d .1) en es el em eo (d .0) cleared)

@@ -27,7 +27,10 @@ use Rattle.machine.specs.Filling.{roundsIn, CanRound}
 use Rattle.machine.proofs.Recounted.{recount-can}
 use Rattle.machine.proofs.Opened.{close-can}
 use Rattle.drafts.specs.declared.Place.{Place}
-use Rattle.drafts.specs.Drafting.{Desk, Drafted, Leads, whole, readAll}
+use Rattle.drafts.specs.declared.Ended.{Ended}
+use Rattle.drafts.specs.declared.Ended.the-variants as E
+use Rattle.drafts.specs.Drafting.{Desk, Drafted, Leads, Drawn, whole, readAll}
+use Rattle.reading_end.specs.declared.Tested.{Tested}
 use Rattle.reading_end.specs.declared.Tested.the-variants.{Passed}
 use Rattle.reading_end.specs.Tests.{textTests}
 use Rattle.reading_end.specs.Clearing.{deskIn, restZeroed}
@@ -188,3 +191,30 @@ module _ (lim : Limits) (text : List ℕ) (t : Tables) (b : Bare lim t) (passed 
           (λ i. lent (n i) (g i .moved .words) (g i .clauses .starts) (g i .clauses .literals) (g i .clauses .occurrenceStarts) (g i .clauses .occurrences)
           (g i .moved .tallies .trues) (g i .moved .tallies .breaks) (g i .moved .tallies .uncovered .list) (g i .moved .tallies .uncovered .places)) in
           q ∙ sym (ap (λ q. readLeaves lim t q .tables) read-is)
+
+-- ---- put together from what the calls gave, as they gave it: v was answered to the tests of the text, and the draft ended by z, in the tables w
+module _ (lim : Limits) (text : List ℕ) (t : Tables) (b : Bare lim t) {v : Tested} (asked : v ≡ textTests lim text) (told : v ≡ Passed) (H : ℕ)
+    (slots-fit : H + lim .terms + 1 ≤ lim .clauses) (w : Desk) {z : Ended} (drawn : Drawn H lim text (deskIn t) w z) {p : Place} (ended : z ≡ E.Whole p)
+    (top : ℕ) (fc : lim .clauses + 1 < top) (ft : 2 * lim .terms < top) (fl : lim .literals < top) (cursors-fit : 2 * lim .terms ≤ lim .clauses) where
+  leads : Leads (readAll lim text) whole H lim (deskIn t) w p
+  leads = subst (Drawn H lim text (deskIn t) w) ended drawn
+
+  abbrev cut : Fixed
+  cut = fixed (w .starts) (w .literals) (t .occurrenceStarts) (t .occurrences)
+
+  abbrev bare : Moving
+  bare = moving (t .values) (tallies (t .trues) (w .stamps) (t .uncovered) (w .slots) 0)
+
+  pub finish-can : CanFinish top lim p cut bare
+  finish-can = can-finish lim text t b (sym asked ∙ told) H slots-fit w p leads top fc ft fl cursors-fit
+
+  pub was-whole : {r : Counts} {y : Fixed} {m : Moving} → finishing r y m ≡ finished lim p cut bare
+      → (R.Accepted r ≡ readLeaves lim t (readText lim text) .answer)
+      × (lent (w .names) (m .words) (y .starts) (y .literals) (y .occurrenceStarts) (y .occurrences) (m .tallies .trues) (m .tallies .breaks)
+      (m .tallies .uncovered .list) (m .tallies .uncovered .places)
+      ≡ readLeaves lim t (readText lim text) .tables)
+  was-whole e =
+      let h = sym asked ∙ told in (
+        whole-answer lim text t b h H slots-fit w p leads top fc ft fl cursors-fit e,
+        whole-tables lim text t b h H slots-fit w p leads top fc ft fl cursors-fit e,
+      )

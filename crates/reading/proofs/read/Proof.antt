@@ -2,34 +2,48 @@
 use mathlib.Core.Path.{refl, _∙_}
 use borrow.Author.Needs.{needs}
 use Rattle.written.specs.Limits.{narrow}
-use Rattle.machine.proofs.Tests.{said-no, said-yes}
-use Rattle.reading_end.proofs.Cleared.{both-wiped}
-use Rattle.reading.proofs.Decided.{short-answer, short-tables, now-bare, read-answer, read-tables}
+use Rattle.written.specs.Tables.{lent}
+use Rattle.reading.proofs.Decided.{was-short, is-bare, was-read}
 use Rattle.reading.proofs.read.Statement.{statement}
 use Rattle.reading.proofs.read.Tie as tie
 
 returns : tie.Need-returns
 returns c =
-    let h = said-no (c .if1 .taken) (c .before .are-full .ensures) in
-    (short-answer narrow _ _ h, short-tables narrow _ _ h)
+    let asked = c .before .before .before .before .before .before .before .before .before .before .before .before in
+    let a = asked .before .before .before .before .before .before .before .before .before .before .before .args in
+    let t =
+    lent (a .names .now) (a .values .now) (a .starts .now) (a .literals .now) (a .occurrence-starts .now) (a .occurrences .now) (a .trues .now) (a .breaks .now)
+    (a .uncovered .now) (a .places .now) in
+    was-short narrow t (c .before .are-full .ensures) (a .text .now) (c .if1 .taken)
 
 read-cleared-requires : tie.Need-read-cleared-requires
 read-cleared-requires c κs =
-    let rest = c .before .before .before .before .before .before .before .before .before .before .before .before .before .before .before .before .before .before .before .before in
+    let given = c .before .before .before .before .before .before .before .before .before .before in
+    let rest = given .before .before .before .before .before .before .before .before .before .before in
     let drafted = rest .before .before .before .before .before .before .before .before .before .before .before .before .before .before .before .before in
     let test = drafted .before .before .before .before .before .before in
-    now-bare narrow _ (said-yes (test .if1 .left) (test .before .are-full .ensures)) (both-wiped narrow _ (drafted .clear-draft .ensures) (rest .clear-others .ensures))
+    let asked = test .before .before .before .before .before .before .before .before .before .before .before .before in
+    let a = asked .before .before .before .before .before .before .before .before .before .before .before .args in
+    let t =
+    lent (a .names .now) (a .values .now) (a .starts .now) (a .literals .now) (a .occurrence-starts .now) (a .occurrences .now) (a .trues .now) (a .breaks .now)
+    (a .uncovered .now) (a .places .now) in
+    is-bare narrow t (test .before .are-full .ensures) (test .if1 .left) (drafted .clear-draft .ensures) (rest .clear-others .ensures)
 
 returns-2 : tie.Need-returns-2
 returns-2 c =
-    let done = c .before .before .before .before .before .before .before .before .before .before .before .before .before .before .before .before .before .before .before .before in
-    let rest = done .before .before .before .before .before .before .before .before .before .before .before .before .before .before .before .before .before .before .before .before .before in
+    let back = c .before .before .before .before .before .before .before .before .before .before in
+    let done = back .before .before .before .before .before .before .before .before .before .before in
+    let given = done .before .before .before .before .before .before .before .before .before .before .before in
+    let rest = given .before .before .before .before .before .before .before .before .before .before in
     let drafted = rest .before .before .before .before .before .before .before .before .before .before .before .before .before .before .before .before in
     let test = drafted .before .before .before .before .before .before in
-    let full = said-yes (test .if1 .left) (test .before .are-full .ensures) in
-    let wiped = both-wiped narrow _ (drafted .clear-draft .ensures) (rest .clear-others .ensures) in
-    let e = done .read-cleared .ensures in
-    (read-answer narrow _ _ full wiped (e .0), read-tables narrow _ _ full wiped (e .1))
+    let asked = test .before .before .before .before .before .before .before .before .before .before .before .before in
+    let a = asked .before .before .before .before .before .before .before .before .before .before .before .args in
+    let t =
+    lent (a .names .now) (a .values .now) (a .starts .now) (a .literals .now) (a .occurrence-starts .now) (a .occurrences .now) (a .trues .now) (a .breaks .now)
+    (a .uncovered .now) (a .places .now) in
+    was-read narrow t (test .before .are-full .ensures) (test .if1 .left) (drafted .clear-draft .ensures) (rest .clear-others .ensures) (a .text .now)
+    (done .read-cleared .ensures)
 
 pub read-spec : {M : Type 1} → statement M
 read-spec =
