@@ -1,36 +1,15 @@
 // Drawing and choosing over the boundary, each asked for alone.
 ghost use mathlib.Core.Path.{_≡_};
 ghost use Rattle.draw.specs.Draw.{drawOf, choiceOf, headsOf};
-ghost use Rattle.ngiyarumba.specs.Answers.{drawAnswer};
-use draw::Drawn;
-use draw::Generator;
-
-// Reason 0, or 11 with the number 0 and the state as it was.
-#[repr(C)]
-pub struct DrawAnswer {
-    pub reason: u32,
-    pub number: u32,
-    pub state: u32,
-}
-
-fn draw_answer(d: Drawn) -> DrawAnswer
-    ensures { λ r. ⌜ r ≡ drawAnswer d ⌝ }
-{
-    let next = d.next;
-    DrawAnswer {
-        reason: d.reason,
-        number: d.number,
-        state: next.state,
-    }
-}
+ghost use Rattle.answers.specs.Answers.{drawAnswer};
+use answers::draws::DrawAnswer;
 
 // One draw.
 #[no_mangle]
 pub extern "C" fn ngi_draw(state: u32) -> DrawAnswer
     ensures { λ r. ⌜ r ≡ drawAnswer (drawOf state) ⌝ }
 {
-    let g = Generator::new(state);
-    draw_answer(g.drawn())
+    answers::draws::drawn(state)
 }
 
 // A choice among m, counted from 0.
@@ -38,8 +17,7 @@ pub extern "C" fn ngi_draw(state: u32) -> DrawAnswer
 pub extern "C" fn ngi_choice(state: u32, m: u32) -> DrawAnswer
     ensures { λ r. ⌜ r ≡ drawAnswer (choiceOf m state) ⌝ }
 {
-    let g = Generator::new(state);
-    draw_answer(g.choice(m))
+    answers::draws::choice(state, m)
 }
 
 // 1 for heads, with the bias in thousandths, else 0.
@@ -47,6 +25,5 @@ pub extern "C" fn ngi_choice(state: u32, m: u32) -> DrawAnswer
 pub extern "C" fn ngi_heads(state: u32, bias: u32) -> DrawAnswer
     ensures { λ r. ⌜ r ≡ drawAnswer (headsOf bias state) ⌝ }
 {
-    let g = Generator::new(state);
-    draw_answer(g.heads(bias))
+    answers::draws::heads(state, bias)
 }

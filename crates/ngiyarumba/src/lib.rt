@@ -1,4 +1,4 @@
-// The boundary: the library's calls under C names, with numbers, slices and plain structs. Thin: each call takes its answer apart, and no more.
+// The boundary: the library's calls under C names, with numbers, slices and plain structs. Thin: each call hands on what `answers` makes of its answer.
 pub mod draws;
 pub mod flip;
 pub mod read;

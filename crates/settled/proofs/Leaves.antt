@@ -1,4 +1,4 @@
--- The statements of `draw`, `words`, `scan`, `reader` and `reasons`. Assumes nothing.
+-- The statements of `draw`, `words`, `scan`, `reader`, `reasons` and `answers`. Assumes nothing.
 use mathlib.Core.Path.{refl, ap}
 use Rattle.settled.specs.Outcomes.{Public}
 use Rattle.settled.proofs.Facts.{meet, same, both}
@@ -32,6 +32,14 @@ use Rattle.reader.proofs.reader_line_end as reader-line-end
 use Rattle.reader.proofs.cursor_token as cursor-token
 use Rattle.reader.proofs.cursor_pass as cursor-pass
 use Rattle.reasons.proofs.number_of as number-of
+use Rattle.answers.proofs.draws.draw_answer as draw-answer
+use Rattle.answers.proofs.draws.drawn as answers-drawn
+use Rattle.answers.proofs.draws.choice as answers-choice
+use Rattle.answers.proofs.draws.heads as answers-heads
+use Rattle.answers.proofs.read.read_answer as read-answer
+use Rattle.answers.proofs.walk.tour_answer as tour-answer
+use Rattle.answers.proofs.walk.walk_answer as walk-answer
+use Rattle.answers.proofs.flip.flip_answer as flip-answer
 
 pub stepped-settled : Public stepped.ended (λ M. stepped.clauses)
 stepped-settled M 𝓤 H A mem run κs a g = record { asks-nothing = refl; one-outcome = λ x y. both 𝓤 (λ p q. same (meet p q) refl) }
@@ -122,3 +130,27 @@ cursor-pass-settled M 𝓤 H A mem run κs a g = record { asks-nothing = refl; o
 
 pub number-of-settled : Public number-of.ended (λ M. number-of.clauses)
 number-of-settled M 𝓤 H A mem run κs a g = record { asks-nothing = refl; one-outcome = λ x y. both 𝓤 (λ p q. same (meet p q) refl) }
+
+pub draw-answer-settled : Public draw-answer.ended (λ M. draw-answer.clauses)
+draw-answer-settled M 𝓤 H A mem run κs a g = record { asks-nothing = refl; one-outcome = λ x y. both 𝓤 (λ p q. same (meet p q) refl) }
+
+pub answers-drawn-settled : Public answers-drawn.ended (λ M. answers-drawn.clauses)
+answers-drawn-settled M 𝓤 H A mem run κs a g = record { asks-nothing = refl; one-outcome = λ x y. both 𝓤 (λ p q. same (meet p q) refl) }
+
+pub answers-choice-settled : Public answers-choice.ended (λ M. answers-choice.clauses)
+answers-choice-settled M 𝓤 H A mem run κs a g = record { asks-nothing = refl; one-outcome = λ x y. both 𝓤 (λ p q. same (meet p q) refl) }
+
+pub answers-heads-settled : Public answers-heads.ended (λ M. answers-heads.clauses)
+answers-heads-settled M 𝓤 H A mem run κs a g = record { asks-nothing = refl; one-outcome = λ x y. both 𝓤 (λ p q. same (meet p q) refl) }
+
+pub read-answer-settled : Public read-answer.ended (λ M. read-answer.clauses)
+read-answer-settled M 𝓤 H A mem run κs a g = record { asks-nothing = refl; one-outcome = λ x y. both 𝓤 (λ p q. same (meet p q) refl) }
+
+pub tour-answer-settled : Public tour-answer.ended (λ M. tour-answer.clauses)
+tour-answer-settled M 𝓤 H A mem run κs a g = record { asks-nothing = refl; one-outcome = λ x y. both 𝓤 (λ p q. same (meet p q) refl) }
+
+pub walk-answer-settled : Public walk-answer.ended (λ M. walk-answer.clauses)
+walk-answer-settled M 𝓤 H A mem run κs a g = record { asks-nothing = refl; one-outcome = λ x y. both 𝓤 (λ p q. same (meet p q) refl) }
+
+pub flip-answer-settled : Public flip-answer.ended (λ M. flip-answer.clauses)
+flip-answer-settled M 𝓤 H A mem run κs a g = record { asks-nothing = refl; one-outcome = λ x y. both 𝓤 (λ p q. same (meet p q) refl) }

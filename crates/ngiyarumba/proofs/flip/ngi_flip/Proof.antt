@@ -1,7 +1,7 @@
 -- `ngiyarumba::flip::ngi_flip` meets its contract: it is `lists::apply`, its answer taken apart. Assumes nothing.
 use mathlib.Core.Path.{ap, _∙_}
 use borrow.Author.Needs.{needs}
-use Rattle.ngiyarumba.specs.Answers.{flipAnswer}
+use Rattle.answers.specs.Answers.{flipAnswer}
 use Rattle.ngiyarumba.proofs.flip.ngi_flip.Statement.{statement}
 use Rattle.ngiyarumba.proofs.flip.ngi_flip.Tie as tie
 

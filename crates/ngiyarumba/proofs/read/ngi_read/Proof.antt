@@ -1,7 +1,7 @@
 -- `ngiyarumba::read::ngi_read` meets its contract: it is `reading::read`, its answer taken apart. Assumes nothing.
 use mathlib.Core.Path.{ap, _∙_}
 use borrow.Author.Needs.{needs}
-use Rattle.ngiyarumba.specs.Answers.{readAnswer}
+use Rattle.answers.specs.Answers.{readAnswer}
 use Rattle.ngiyarumba.proofs.read.ngi_read.Statement.{statement}
 use Rattle.ngiyarumba.proofs.read.ngi_read.Tie as tie
 

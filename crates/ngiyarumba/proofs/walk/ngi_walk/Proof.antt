@@ -1,7 +1,7 @@
 -- `ngiyarumba::walk::ngi_walk` meets its contract: it is `walk_calls::walk`, its answer taken apart. Assumes nothing.
 use mathlib.Core.Path.{ap, _∙_}
 use borrow.Author.Needs.{needs}
-use Rattle.ngiyarumba.specs.Answers.{walkAnswer}
+use Rattle.answers.specs.Answers.{walkAnswer}
 use Rattle.ngiyarumba.proofs.walk.ngi_walk.Statement.{statement}
 use Rattle.ngiyarumba.proofs.walk.ngi_walk.Tie as tie
 

@@ -1,8 +1,8 @@
--- `ngiyarumba::walk::walk_answer` meets its contract: the values of each case. Assumes nothing.
+-- `answers::walk::walk_answer` meets its contract: the values of each case. Assumes nothing.
 use borrow.Author.Needs.{needs}
-use Rattle.ngiyarumba.specs.Answers.{walkAnswer}
-use Rattle.ngiyarumba.proofs.walk.walk_answer.Statement.{statement}
-use Rattle.ngiyarumba.proofs.walk.walk_answer.Tie as tie
+use Rattle.answers.specs.Answers.{walkAnswer}
+use Rattle.answers.proofs.walk.walk_answer.Statement.{statement}
+use Rattle.answers.proofs.walk.walk_answer.Tie as tie
 
 returns : tie.Need-returns
 unfolding walkAnswer

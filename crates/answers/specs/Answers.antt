@@ -8,10 +8,10 @@ use Rattle.written.specs.declared.Tour.{Tour}
 use Rattle.written.specs.declared.Walked.{Walked}
 use Rattle.written.specs.declared.Flipped.{Flipped}
 use Rattle.written.specs.Outcomes.{readValues, walkValues, flipValues}
-use Rattle.ngiyarumba.specs.declared.draws.DrawAnswer.{DrawAnswer}
-use Rattle.ngiyarumba.specs.declared.read.ReadAnswer.{ReadAnswer}
-use Rattle.ngiyarumba.specs.declared.walk.WalkAnswer.{WalkAnswer}
-use Rattle.ngiyarumba.specs.declared.flip.FlipAnswer.{FlipAnswer}
+use Rattle.answers.specs.declared.draws.DrawAnswer.{DrawAnswer}
+use Rattle.answers.specs.declared.read.ReadAnswer.{ReadAnswer}
+use Rattle.answers.specs.declared.walk.WalkAnswer.{WalkAnswer}
+use Rattle.answers.specs.declared.flip.FlipAnswer.{FlipAnswer}
 
 -- an order, its numbers given one by one
 abbrev pub order : ℕ → ℕ → ℕ → ℕ → Order

@@ -1,8 +1,8 @@
--- `ngiyarumba::read::read_answer` meets its contract: the values of each case. Assumes nothing.
+-- `answers::read::read_answer` meets its contract: the values of each case. Assumes nothing.
 use borrow.Author.Needs.{needs}
-use Rattle.ngiyarumba.specs.Answers.{readAnswer}
-use Rattle.ngiyarumba.proofs.read.read_answer.Statement.{statement}
-use Rattle.ngiyarumba.proofs.read.read_answer.Tie as tie
+use Rattle.answers.specs.Answers.{readAnswer}
+use Rattle.answers.proofs.read.read_answer.Statement.{statement}
+use Rattle.answers.proofs.read.read_answer.Tie as tie
 
 returns : tie.Need-returns
 unfolding readAnswer

@@ -1,8 +1,8 @@
--- `ngiyarumba::flip::flip_answer` meets its contract: the values of each case. Assumes nothing.
+-- `answers::flip::flip_answer` meets its contract: the values of each case. Assumes nothing.
 use borrow.Author.Needs.{needs}
-use Rattle.ngiyarumba.specs.Answers.{flipAnswer}
-use Rattle.ngiyarumba.proofs.flip.flip_answer.Statement.{statement}
-use Rattle.ngiyarumba.proofs.flip.flip_answer.Tie as tie
+use Rattle.answers.specs.Answers.{flipAnswer}
+use Rattle.answers.proofs.flip.flip_answer.Statement.{statement}
+use Rattle.answers.proofs.flip.flip_answer.Tie as tie
 
 returns : tie.Need-returns
 unfolding flipAnswer
