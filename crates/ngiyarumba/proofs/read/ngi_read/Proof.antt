@@ -11,5 +11,17 @@ returns c = let e = c .before .before .before .before .before .before .before .b
 pub ngi-read-spec : {M : Type 1} → statement M
 ngi-read-spec =
     tie.close
-    (tie.spec (λ c κs. search needs) (λ c κs. search needs) (λ c. search needs) (λ c. search needs) (λ c. search needs) (λ c. search needs)
-    (λ c. search needs) (λ c. search needs) (λ c. search needs) (λ c. search needs) (λ c. search needs) (λ c. search needs) returns)
+    (tie.spec (λ c κs. search needs) (λ c κs. search needs)
+    (λ c. c .before .before .before .before .before .before .before .before .before .before
+    .before .before .before .before .before .before .before .before .before .before .names .given)
+    (λ c. c .before .before .before .before .before .before .before .before .before .before
+    .before .before .before .before .before .before .before .before .values .given)
+    (λ c. c .before .before .before .before .before .before .before .before .before .before .before .before .before .before .before .before .starts .given)
+    (λ c. c .before .before .before .before .before .before .before .before .before .before .before .before .before .before .literals-table .given)
+    (λ c. c .before .before .before .before .before .before .before .before .before .before .before .before .occurrence-starts .given)
+    (λ c. c .before .before .before .before .before .before .before .before .before .before .occurrences .given)
+    (λ c. c .before .before .before .before .before .before .before .before .true-counts .given)
+    (λ c. c .before .before .before .before .before .before .break-counts .given)
+    (λ c. c .before .before .before .before .uncovered-list .given)
+    (λ c. c .before .before .places .given)
+    returns)
