@@ -1,7 +1,6 @@
 -- `solving::read_on` meets its contract: a refusal is printed; an accepted text is walked over. Assumes nothing.
 use mathlib.Core.Path.{_∙_}
 use native.Mathlib.Omega.{arith}
-use borrow.Author.Needs.{needs}
 use Rattle.written.specs.Limits.{narrow}
 use Rattle.solving.proofs.Readings.{refused-fits, refused-ends, accepted-walks, accepted-ends}
 use Rattle.solving.proofs.read_on.Statement.{statement}
@@ -39,7 +38,7 @@ returns-2 c =
 pub read-on-spec : {M : Type 1} → statement M
 read-on-spec =
     tie.close
-    (tie.spec (λ c κs. search needs) (λ c. search needs) refusal-requires (λ c. search needs) walk-on-requires
+    (tie.spec (λ c κs. tt) (λ c. c .match .keys1) refusal-requires (λ c. c .match .keys2) walk-on-requires
     (λ c. c .before .before .before .before .before .before .before .before .before .before .before .before .before .before .before .before .before .before .before .before .before .before .before .before .before .before .names .given)
     (λ c. c .before .before .before .before .before .before .before .before .before .before .before .before .before .before .before .before .before .before .before .before .before .before .before .before .values .given)
     (λ c. c .before .before .before .before .before .before .before .before .before .before .before .before .before .before .before .before .before .before .before .before .before .before .starts .given)
