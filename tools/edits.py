@@ -1,36 +1,18 @@
 #!/usr/bin/env python3
 """edits.py: every must-fail edit can be applied and is cited, and every edit that is cited exists. Last line: 'N edits'.
 
-It can be applied where each `file:` is one of its crate, and each `old:` stands there once, the pairs before it applied, and is not its `new:`.
-It is cited in docs/STATEMENTS.md, by its name, under its crate or in the row of a function of its crate, or there or in docs/MAP.md as
-CRATE/must-fail/NAME."""
+It stands under crates/CRATE/must-fail or under tests/wrong/CRATE, and a name once in its crate. It can be applied where each `file:` is one of its crate, and each
+`old:` stands there once, the pairs before it applied, and is not its `new:`. It is cited in docs/STATEMENTS.md, by its name, under its crate or in the row of a
+function of its crate, or there or in docs/MAP.md as CRATE/must-fail/NAME, wherever it stands. From nothing, under crates, are tried those that the first two tables of
+docs/STATEMENTS.md cite, one at least of each exported call, by its row there, and all of the definitions in `written` and `machine`."""
 import re
 import sys
 
 sys.dont_write_bytecode = True  # nothing is written into the tree
 from statements import CRATES, ROOT, functions, rows  # noqa: E402
+from wrong_versions import OVER_A_CHECK, applied, edits  # noqa: E402
 
-
-def faults(edit):
-    """Why an edit cannot be applied; lines of no key are passed over."""
-    lines = re.findall(r"(?m)^(file: |old: |new: ?)(.*)$", edit.read_text())
-    if not re.fullmatch(r"(f(on)+)+", "".join(key[0] for key, _ in lines)):
-        return ["its lines are not a file, then pairs of old and new"]
-    texts, found = {}, []
-    for key, words in lines:
-        if key == "file: ":
-            file = edit.parent.parent / words
-            if not file.is_file() or not re.match(r"(src|specs|proofs)/(?!.*\.\.)", words):
-                return found + [f"its crate has no {words}"]
-            texts.setdefault(file, file.read_text())
-        elif key == "old: ":
-            old = words
-        else:
-            times = texts[file].count(old)
-            found += [f"{times} times in {file.name}: {old}"] if times != 1 else []
-            found += [f"old and new are the same: {old}"] if old == words else []
-            texts[file] = texts[file].replace(old, words)
-    return found
+NAMED_IN_DOCUMENT = ("The wrong versions that document 01 names", "Errors that look right")
 
 
 def edits_named(crate, words):
@@ -52,13 +34,43 @@ def cited():
     return set(found)
 
 
+def row_cites(section, row):
+    """The edits that a row cites, by their names or as CRATE/must-fail/NAME."""
+    crate = (functions(section, row) or [section])[0].split("::")[0]
+    words = " ".join(cell for head, cell in row.items() if re.search(r"edit|wrong versions", head))
+    return set(edits_named(crate, words) + re.findall(r"`(\w+/must-fail/\w+)`", words))
+
+
+def exported():
+    """Every function that is exported, as CRATE::name."""
+    return {f"{path.parts[-3]}::{name}" for path in ROOT.glob("crates/*/src/*.rt") for name in re.findall(r'extern "C" fn (\w+)', path.read_text())}
+
+
+def to_be_moved(over_a_check):
+    """What of the edits that are tried over a check has to be tried from nothing, and why."""
+    calls = exported()
+    found = [f"{name}: the definitions' edits are tried from nothing" for name in sorted(over_a_check) if name.split("/")[0] in ("written", "machine")]
+    for section, row in rows():
+        cites = row_cites(section, row)
+        if section in NAMED_IN_DOCUMENT:
+            found += [f"{name}: document 01 names it, so it is tried from nothing" for name in sorted(cites & over_a_check)]
+        for call in sorted(calls & set(functions(section, row))):
+            calls.discard(call)
+            found += [f"{call}: none of its edits is tried from nothing"] if cites <= over_a_check else []
+    return found + [f"{call}: exported, and no row says which edits are its own" for call in sorted(calls)]
+
+
 def main():
-    edits = {f"{path.parts[-3]}/must-fail/{path.stem}": path for path in sorted(ROOT.glob("crates/*/must-fail/*.edit"))}
-    wrong = [f"{name}: {fault}" for name, path in edits.items() for fault in faults(path)]
-    wrong += [f"{name}: no document cites it" for name in sorted(edits.keys() - cited())]
-    wrong += [f"{name}: it is cited, and there is no such edit" for name in sorted(cited() - edits.keys())]
-    print("\n".join(wrong + [f"{len(edits)} edits"]))
-    return 1 if wrong or not edits else 0
+    every = edits()
+    names = [f"{edit.crate}/must-fail/{edit.name}" for edit in every]
+    wrong = [f"{edit}: {fault}" for edit in every for fault in applied(edit)[1]]
+    wrong += [f"{name}: it stands twice" for name in sorted({name for name in names if names.count(name) > 1})]
+    wrong += [f"{path.relative_to(ROOT)}: no edit of a crate" for path in sorted(ROOT.glob("tests/wrong/**/*.*")) if path not in {edit.path for edit in every}]
+    wrong += [f"{name}: no document cites it" for name in sorted(set(names) - cited())]
+    wrong += [f"{name}: it is cited, and there is no such edit" for name in sorted(cited() - set(names))]
+    wrong += to_be_moved({f"{edit.crate}/must-fail/{edit.name}" for edit in every if edit.tried == OVER_A_CHECK})
+    print("\n".join(wrong + [f"{len(every)} edits"]))
+    return 1 if wrong or not every else 0
 
 
 if __name__ == "__main__":

@@ -5,7 +5,7 @@ kind, and each open point of docs/DECISIONS.md cites what says it. Last line: 'N
 `CRATE/File.name`          a definition of crates/CRATE/specs or a law of crates/CRATE/proofs
 `CRATE::name`              a public function of crates/CRATE/src, also `CRATE::Type::name`
 `CRATE/src/FILE.rt::name`  a function of that file, public or not
-`CRATE/must-fail/name`     an edit
+`CRATE/must-fail/name`     an edit, of crates/CRATE/must-fail or of tests/wrong/CRATE
 `CRATE/specs/..`, `CRATE/proofs/..`, `CRATE/src/..`, `CRATE/File`
                            a file or a folder of that crate, {A,B} for several; .antt may be left out
 `FILE.rs::name`            a test of tests/oracle/tests/FILE.rs or tests/boundary/tests/FILE.rs; the first words of its name are enough
@@ -67,7 +67,8 @@ def code(crate, file, name):
 
 
 def edit(crate, name):
-    return "edit" if (ROOT / "crates" / crate / "must-fail" / f"{name}.edit").is_file() else None
+    homes = (ROOT / "crates" / crate / "must-fail", ROOT / "tests/wrong" / crate)
+    return "edit" if any((home / f"{name}.edit").is_file() for home in homes) else None
 
 
 def test(file, name):
