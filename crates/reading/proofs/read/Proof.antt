@@ -2,19 +2,23 @@
 use mathlib.Core.Path.{refl, _∙_}
 use borrow.Author.Needs.{needs}
 use Rattle.written.specs.Limits.{narrow}
-use Rattle.written.specs.Tables.{lent}
+use Rattle.written.specs.Tables.{Tables, lent}
 use Rattle.reading.proofs.Decided.{was-short, is-bare, was-read}
 use Rattle.reading.proofs.read.Statement.{statement}
 use Rattle.reading.proofs.read.Tie as tie
+use Rattle.reading.proofs.read.Lts as lts
+
+-- the tables as they were lent: written out, since each fact about them would find them anew
+abbrev tables : {calls : _} {asks : _} {tells : _} {κs : _} → lts.Args calls asks tells κs → Tables
+tables a =
+    lent (a .names .now) (a .values .now) (a .starts .now) (a .literals .now) (a .occurrence-starts .now) (a .occurrences .now)
+    (a .trues .now) (a .breaks .now) (a .uncovered .now) (a .places .now)
 
 returns : tie.Need-returns
 returns c =
     let asked = c .before .before .before .before .before .before .before .before .before .before .before .before in
     let a = asked .before .before .before .before .before .before .before .before .before .before .before .args in
-    let t =
-    lent (a .names .now) (a .values .now) (a .starts .now) (a .literals .now) (a .occurrence-starts .now) (a .occurrences .now) (a .trues .now) (a .breaks .now)
-    (a .uncovered .now) (a .places .now) in
-    was-short narrow t (c .before .are-full .ensures) (a .text .now) (c .if1 .taken)
+    was-short narrow (tables a) (c .before .are-full .ensures) (a .text .now) (c .if1 .taken)
 
 read-cleared-requires : tie.Need-read-cleared-requires
 read-cleared-requires c κs =
@@ -24,10 +28,7 @@ read-cleared-requires c κs =
     let test = drafted .before .before .before .before .before .before in
     let asked = test .before .before .before .before .before .before .before .before .before .before .before .before in
     let a = asked .before .before .before .before .before .before .before .before .before .before .before .args in
-    let t =
-    lent (a .names .now) (a .values .now) (a .starts .now) (a .literals .now) (a .occurrence-starts .now) (a .occurrences .now) (a .trues .now) (a .breaks .now)
-    (a .uncovered .now) (a .places .now) in
-    is-bare narrow t (test .before .are-full .ensures) (test .if1 .left) (drafted .clear-draft .ensures) (rest .clear-others .ensures)
+    is-bare narrow (tables a) (test .before .are-full .ensures) (test .if1 .left) (drafted .clear-draft .ensures) (rest .clear-others .ensures)
 
 returns-2 : tie.Need-returns-2
 returns-2 c =
@@ -39,10 +40,7 @@ returns-2 c =
     let test = drafted .before .before .before .before .before .before in
     let asked = test .before .before .before .before .before .before .before .before .before .before .before .before in
     let a = asked .before .before .before .before .before .before .before .before .before .before .before .args in
-    let t =
-    lent (a .names .now) (a .values .now) (a .starts .now) (a .literals .now) (a .occurrence-starts .now) (a .occurrences .now) (a .trues .now) (a .breaks .now)
-    (a .uncovered .now) (a .places .now) in
-    was-read narrow t (test .before .are-full .ensures) (test .if1 .left) (drafted .clear-draft .ensures) (rest .clear-others .ensures) (a .text .now)
+    was-read narrow (tables a) (test .before .are-full .ensures) (test .if1 .left) (drafted .clear-draft .ensures) (rest .clear-others .ensures) (a .text .now)
     (done .read-cleared .ensures)
 
 pub read-spec : {M : Type 1} → statement M

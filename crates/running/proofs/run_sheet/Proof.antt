@@ -11,7 +11,9 @@ use Rattle.running.proofs.run_sheet.Lts as lts
 
 -- the tables as they were lent: written out, since each fact about them would find them anew
 abbrev tables : {calls : _} {asks : _} {tells : _} {κs : _} → lts.Args calls asks tells κs → Tables
-tables a = lent (a .names .now) (a .values .now) (a .starts .now) (a .literals .now) (a .occurrence-starts .now) (a .occurrences .now) (a .trues .now) (a .breaks .now) (a .uncovered .now) (a .places .now)
+tables a =
+    lent (a .names .now) (a .values .now) (a .starts .now) (a .literals .now) (a .occurrence-starts .now) (a .occurrences .now)
+    (a .trues .now) (a .breaks .now) (a .uncovered .now) (a .places .now)
 
 returns : tie.Need-returns
 returns c =
