@@ -1,5 +1,5 @@
 -- `stepping::one_walk` meets its contract: it is put together from its calls. Assumes nothing.
-use borrow.Author.Needs.{needs}
+use mathlib.Core.Path.{_∙_}
 use Rattle.stepping.proofs.Calls.{can-start, can-go, is-walked}
 use Rattle.stepping.proofs.one_walk.Statement.{statement}
 use Rattle.stepping.proofs.one_walk.Tie as tie
@@ -16,5 +16,16 @@ returns c = is-walked _ _ _ _ (c .before .before .before .before .before .before
 pub one-walk-spec : {M : Type 1} → statement M
 one-walk-spec =
     tie.close
-    (tie.spec start-requires onwards-requires (λ c. search needs) (λ c. search needs) (λ c. search needs) (λ c. search needs) (λ c. search needs)
-    (λ c. search needs) returns)
+    (tie.spec start-requires onwards-requires
+    (λ c. let d = c .before .before .before .before .before .before .before .before .before .before .before in d .values2 .given ∙
+    d .before .before .before .before .before .before .before .before .before .before .before .before .before .before .before .before .before .values .given)
+    (λ c. let d = c .before .before .before .before .before .before .before .before .before in d .trues2 .given ∙
+    d .before .before .before .before .before .before .before .before .before .before .before .before .before .before .before .before .before .trues .given)
+    (λ c. let d = c .before .before .before .before .before .before .before in d .breaks2 .given ∙
+    d .before .before .before .before .before .before .before .before .before .before .before .before .before .before .before .before .before .breaks .given)
+    (λ c. let d = c .before .before .before .before .before in d .list2 .given ∙
+    d .before .before .before .before .before .before .before .before .before .before .before .before .before .before .before .before .before .list .given)
+    (λ c. let d = c .before .before .before in d .places2 .given ∙
+    d .before .before .before .before .before .before .before .before .before .before .before .before .before .before .before .before .before .places .given)
+    (λ c. c .before .ties .given)
+    returns)

@@ -60,6 +60,17 @@ pub onwards-spec : {M : Type 1} → statement M
 onwards-spec =
     tie.close
     (tie.spec Inv-loop μ-loop add-last loop-holds
-    (λ c. search needs) (λ c. search needs) (λ c. search needs) (λ c. search needs) (λ c. search needs) (λ c. search needs) returns
-    step-requires loop-less loop-again
-    (λ c. search needs) (λ c. search needs) (λ c. search needs) (λ c. search needs) (λ c. search needs) (λ c. search needs) returns-2)
+    (λ c. c .before .before .before .before .loop .inv .2)
+    (λ c. c .before .before .before .before .loop .inv .1 .trues-size)
+    (λ c. c .before .before .before .before .loop .inv .1 .breaks-size)
+    (λ c. c .before .before .before .before .loop .inv .1 .list-size)
+    (λ c. c .before .before .before .before .loop .inv .1 .places-size)
+    (λ c. c .before .before .before .before .loop .inv .3)
+    returns step-requires loop-less loop-again
+    (λ c. c .before .before .loop .inv .2)
+    (λ c. c .before .before .loop .inv .1 .trues-size)
+    (λ c. c .before .before .loop .inv .1 .breaks-size)
+    (λ c. c .before .before .loop .inv .1 .list-size)
+    (λ c. c .before .before .loop .inv .1 .places-size)
+    (λ c. c .before .before .loop .inv .3)
+    returns-2)

@@ -32,4 +32,12 @@ pub step-spec : {M : Type 1} → statement M
 step-spec =
     tie.close
     (tie.spec (λ c. search needs) slice-aggregate-chosen-from chosen-from-requires (λ c. search needs) part-requires literal-in-requires
-    (λ c. search needs) flip-term-requires add-flips (λ c. search needs) (λ c. search needs) (λ c. search needs) (λ c. search needs) (λ c. search needs) (λ c. search needs) returns)
+    (λ c. search needs) flip-term-requires add-flips
+    (λ c. c .before .before .before .before .before .before .before .before .before .before .values .given)
+    (λ c. c .before .before .before .before .before .before .before .before .trues .given)
+    (λ c. c .before .before .before .before .before .before .breaks .given)
+    (λ c. c .before .before .before .before .list .given)
+    (λ c. c .before .before .places .given)
+    (λ c. c .before .before .before .before .before .before .before .before .before .before .before .before .before .before .before .before .before
+    .before .before .before .ties .given)
+    returns)
