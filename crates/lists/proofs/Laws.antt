@@ -91,3 +91,23 @@ module _ (lim : Limits) (ts : List ℕ) (n : Counts) (t : Tables) where
             (w .tallies .uncovered .list) (w .tallies .uncovered .places) ≡ flipsOf lim ts n t .tables
         unfolding flipsLeave
         tables-are = agree-leaves lim top fc ft fl n t (acceptable .full) (acceptable .agrees) ts (acceptable .known) outcome ∙ sym (ap (λ l. l .tables) (passed lim ts n t acceptable))
+
+-- what the tests said, as a
+module _ (lim : Limits) (ts : List ℕ) (n : Counts) (t : Tables) {a : Tested} (asked : a ≡ testsOf lim ts n t) where
+  pub was-refused : {e : Reason} → a ≡ Failed e
+      → (F.Refused (record { reason = e; counts = n }) ≡ flipsOf lim ts n t .answer) × (t ≡ flipsOf lim ts n t .tables)
+  was-refused q = (refused-answer lim ts n t (sym asked ∙ q), refused-tables lim ts n t (sym asked ∙ q))
+
+  module _ (q : a ≡ Passed) (top : ℕ) (fc : lim .clauses + 1 < top) (ft : 2 * lim .terms < top) (fl : lim .literals < top) where
+    pub may-apply : CanApply top (n .clauses) (fixedIn t) ts (movingIn (n .uncovered) t)
+    may-apply = can-apply lim ts n t (sym asked ∙ q) top fc ft fl
+
+    module _ {w : Moving} (e : w ≡ applied (n .clauses) (fixedIn t) ts (movingIn (n .uncovered) t)) where
+      pub left-low : w .tallies .uncovered .number ≤ lim .clauses
+      left-low = number-low lim ts n t (sym asked ∙ q) top fc ft fl e
+
+      pub was-applied : {k : Counts} → k ≡ record { terms = n .terms; clauses = n .clauses; literals = n .literals; uncovered = w .tallies .uncovered .number }
+          → (F.Applied k ≡ flipsOf lim ts n t .answer)
+          × (lent (t .names) (w .words) (t .starts) (t .literals) (t .occurrenceStarts) (t .occurrences) (w .tallies .trues) (w .tallies .breaks)
+          (w .tallies .uncovered .list) (w .tallies .uncovered .places) ≡ flipsOf lim ts n t .tables)
+      was-applied c = (ap F.Applied c ∙ answer-is lim ts n t (sym asked ∙ q) top fc ft fl e, tables-are lim ts n t (sym asked ∙ q) top fc ft fl e)

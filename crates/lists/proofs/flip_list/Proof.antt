@@ -1,4 +1,5 @@
 -- `lists::flip_list` meets its contract: it is put together from its calls. Assumes nothing.
+use mathlib.Core.Path.{_∙_}
 use borrow.Author.Needs.{needs}
 use Rattle.machine.proofs.Calls.{can-flip-all, can-close-all, is-applied}
 use Rattle.lists.proofs.flip_list.Statement.{statement}
@@ -16,5 +17,11 @@ returns c = is-applied _ _ _ _ _ (c .before .before .before .before .before .bef
 pub flip-list-spec : {M : Type 1} → statement M
 flip-list-spec =
     tie.close
-    (tie.spec (λ c κs. search needs) flip-all-requires close-all-requires (λ c. search needs) (λ c. search needs) (λ c. search needs) (λ c. search needs)
-    (λ c. search needs) returns)
+    (tie.spec (λ c κs. search needs) flip-all-requires close-all-requires
+    (λ c. c .before .before .before .before .before .before .before .before .before .before .before .before .before .before .values .given)
+    (λ c. c .before .before .before .before .before .before .before .before .before .before .before .before .trues .given)
+    (λ c. c .before .before .before .before .before .before .before .before .before .before .breaks .given)
+    (λ c. c .before .before .before .before .before .before .before .before .uncovered .given)
+    (λ c. let d = c .before .before .before .before .before .before in c .before .places3 .given ∙ d .places2 .given ∙
+    d .before .before .before .before .before .before .before .before .before .before .before .before .before .before .before .before .places .given)
+    returns)
