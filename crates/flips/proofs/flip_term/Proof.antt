@@ -1,5 +1,8 @@
 -- `flips::flip_term` meets its contract: it is put together from its calls. Assumes nothing.
+use mathlib.Core.Path.{_∙_}
 use native.Mathlib.Omega.{arith}
+use Rattle.machine.specs.Tallies.{tallies}
+use Rattle.machine.specs.Moving.{moving, occurring}
 use Rattle.machine.proofs.Calls.{other-down, can-up, can-down, can-gain, is-gained, can-lose, is-flipped}
 use borrow.Author.Needs.{needs}
 use Rattle.flips.proofs.flip_term.Statement.{statement}
@@ -28,11 +31,26 @@ returns c =
     let l = c .before .before .before .before .before .before .before .before in
     let g = l .before .before .before .before .before .before .before .before .before .before .before .before .before .before in
     let up = g .before .before .before .before .before .before .before .before .before .before .up-literal .ensures in
-    is-flipped _ _ _ (is-gained _ _ _ (g .gain-run .ensures) (g .before .before .before .before .before .part .ensures) up) (g .before .before .before .before .before .before .before .before .turn .ensures) (l .before .before .before .before .before .part2 .ensures) (other-down _ _ up)
-    (l .lose-run .ensures)
+    let a = g .before .before .before .before .before .before .before .before .before .before .before .before .before .before .before .before .before
+    .before .before .args in
+    is-flipped (occurring (a .occurrence-starts .now) (a .occurrences .now)) (a .v)
+    (moving (a .values .now) (tallies (a .trues .now) (a .breaks .now) (a .list .now) (a .places .now) (a .number)))
+    (is-gained _ _ _ (g .gain-run .ensures) (g .before .before .before .before .before .part .ensures) up)
+    (g .before .before .before .before .before .before .before .before .turn .ensures)
+    (l .before .before .before .before .before .part2 .ensures) (other-down _ _ up) (l .lose-run .ensures)
 
 pub flip-term-spec : {M : Type 1} → statement M
 flip-term-spec =
     tie.close
-    (tie.spec (λ c κs. search needs) (λ c κs. search needs) part-requires gain-run-requires part-requires-2 lose-run-requires (λ c. search needs)
-    (λ c. search needs) (λ c. search needs) (λ c. search needs) (λ c. search needs) returns)
+    (tie.spec (λ c κs. search needs) (λ c κs. search needs) part-requires gain-run-requires part-requires-2 lose-run-requires
+    (λ c. c .before .before .before .before .before .before .before .before .before .before .before .before .before .before .before .before .before
+    .before .before .before .before .before .before .before .before .before .before .before .before .values .given)
+    (λ c. let d = c .before .before .before .before .before .before .before in d .trues2 .given ∙
+    d .before .before .before .before .before .before .before .before .before .before .before .before .before .before .trues .given)
+    (λ c. let d = c .before .before .before .before .before in d .breaks2 .given ∙
+    d .before .before .before .before .before .before .before .before .before .before .before .before .before .before .breaks .given)
+    (λ c. let d = c .before .before .before in d .list2 .given ∙
+    d .before .before .before .before .before .before .before .before .before .before .before .before .before .before .list .given)
+    (λ c. let d = c .before in d .places2 .given ∙
+    d .before .before .before .before .before .before .before .before .before .before .before .before .before .before .places .given)
+    returns)
