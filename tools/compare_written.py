@@ -128,7 +128,7 @@ def main():
     bad = []
     with tempfile.TemporaryDirectory() as place:
         copy = Path(place) / "copy"
-        shutil.copytree(ROOT, copy, ignore=shutil.ignore_patterns(".git", "cargo"))
+        shutil.copytree(ROOT, copy, ignore=shutil.ignore_patterns(".git", "cargo", "wrong", "must-fail"))
         lib = copy / "crates/written/specs/Lib.antt"
         lib.write_text(lib.read_text() + "pub mod Compared\n")
         for at in range(0, len(found), CHUNK):

@@ -161,7 +161,7 @@ def main():
     tally = {}
     with tempfile.TemporaryDirectory() as place:
         copy = Path(place) / "copy"
-        shutil.copytree(ROOT, copy, ignore=shutil.ignore_patterns(".git", "cargo"))
+        shutil.copytree(ROOT, copy, ignore=shutil.ignore_patterns(".git", "cargo", "wrong", "must-fail"))
         for name in chosen:
             for old, new in EDITS[name]:
                 verdict = judge(copy, name, old, new)
