@@ -74,7 +74,7 @@ fn sheet(buffer: &mut [u8]) -> usize
 fn show(title: &[u8], input: &[u8]) {
     io::write_all(1, title);
     let mut out = [0u8; 20544];
-    let n = alone::run_alone(input, &mut out);
+    let n = running_alone::run_alone(input, &mut out);
     io::write_all(1, &out[..n]);
 }
 

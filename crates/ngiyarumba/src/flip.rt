@@ -39,7 +39,7 @@ pub extern "C" fn ngi_flip(
         literals: literals,
         uncovered: uncovered,
     };
-    let answer = lists::apply(
+    let answer = flipping_lists::apply(
         list,
         n,
         names,

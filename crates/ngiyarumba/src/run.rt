@@ -3,7 +3,7 @@ ghost use mathlib.Core.Path.{_≡_};
 ghost use Rattle.written.specs.Limits.{narrow};
 ghost use Rattle.written.specs.Tables.{lent};
 ghost use Rattle.written.specs.Program.{runOf};
-ghost use Rattle.solving.specs.Running.{answered};
+ghost use Rattle.running_text.specs.Running.{answered};
 use written::RunAnswer;
 
 // What the program prints for the input stands first in `out`. Result 1 tells so, with its length; 0 that a table or `out` is too short (reason 1).

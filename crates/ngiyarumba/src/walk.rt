@@ -49,7 +49,7 @@ pub extern "C" fn ngi_walk(
         literals: literals,
         uncovered: uncovered,
     };
-    let answer = walk_calls::walk(
+    let answer = walking_call::walk(
         o,
         n,
         names,

@@ -14,9 +14,9 @@ use Rattle.written.specs.Tables.{Tables, lent, sizes, fullSizes}
 use Rattle.written.specs.Outcomes.{readLeaves}
 use Rattle.laws.proofs.Each.Table.{Names, Starts, Literals, Breaks, Places}
 use Rattle.laws.proofs.Holding.{full-at}
-use Rattle.drafts.specs.declared.Ended.{Ended}
-use Rattle.drafts.specs.declared.Ended.the-variants as E
-use Rattle.drafts.specs.Drafting.{Desk, desk, Beyond, Blank, Drawn, readAll}
+use Rattle.reading_lines.specs.declared.Ended.{Ended}
+use Rattle.reading_lines.specs.declared.Ended.the-variants as E
+use Rattle.reading_lines.specs.Drafting.{Desk, desk, Beyond, Blank, Drawn, readAll}
 use Rattle.reading_end.specs.declared.Tested.{Tested}
 use Rattle.reading_end.specs.declared.Tested.the-variants.{Passed, Failed}
 use Rattle.reading_end.specs.Tests.{textTests}

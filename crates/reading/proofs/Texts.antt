@@ -11,7 +11,7 @@ use Rattle.written.specs.declared.Reason.the-variants.{LongText, OpenEnd}
 use Rattle.written.specs.Limits.{Limits}
 use Rattle.written.specs.Reasons.{fault}
 use Rattle.written.specs.Reading.{refused, readText}
-use Rattle.drafts.specs.Drafting.{readAll}
+use Rattle.reading_lines.specs.Drafting.{readAll}
 use Rattle.laws.proofs.Basics.{by-cases}
 use Rattle.reading_end.specs.declared.Tested.{Tested}
 use Rattle.reading_end.specs.declared.Tested.the-variants.{Passed, Failed}

@@ -26,10 +26,10 @@ use Rattle.machine.specs.Lent.{fixedIn, movingIn}
 use Rattle.machine.specs.Filling.{roundsIn, CanRound}
 use Rattle.machine.proofs.Recounted.{recount-can}
 use Rattle.machine.proofs.Opened.{close-can}
-use Rattle.drafts.specs.declared.Place.{Place}
-use Rattle.drafts.specs.declared.Ended.{Ended}
-use Rattle.drafts.specs.declared.Ended.the-variants as E
-use Rattle.drafts.specs.Drafting.{Desk, Drafted, Leads, Drawn, whole, readAll}
+use Rattle.reading_lines.specs.declared.Place.{Place}
+use Rattle.reading_lines.specs.declared.Ended.{Ended}
+use Rattle.reading_lines.specs.declared.Ended.the-variants as E
+use Rattle.reading_lines.specs.Drafting.{Desk, Drafted, Leads, Drawn, whole, readAll}
 use Rattle.reading_end.specs.declared.Tested.{Tested}
 use Rattle.reading_end.specs.declared.Tested.the-variants.{Passed}
 use Rattle.reading_end.specs.Tests.{textTests}

@@ -5,8 +5,8 @@ ghost use Rattle.written.specs.Reading.{readText};
 ghost use Rattle.written.specs.Tables.{lent};
 ghost use Rattle.written.specs.Outcomes.{readLeaves, readingOf};
 ghost use Rattle.reading.specs.Bare.{Bare};
-use drafts::Ended;
 use reading_end::Tested;
+use reading_lines::Ended;
 use written::Fault;
 use written::Read;
 use written::Reason;
@@ -43,7 +43,7 @@ fn read_cleared(
         }
         Tested::Passed => {}
     }
-    match drafts::draft(text, names, starts, literals, breaks, places) {
+    match reading_lines::draft(text, names, starts, literals, breaks, places) {
         Ended::Refused(fault) => {
             reading_end::clear_draft(names, starts, literals, breaks, places);
             return Read::Refused(fault);
@@ -87,7 +87,7 @@ pub fn read(
         ≡ readingOf narrow (now (text .entry)) (lent (now (names .entry)) (now (values .entry)) (now (starts .entry)) (now (literals .entry))
         (now («occurrence_starts» .entry)) (now (occurrences .entry)) (now (trues .entry)) (now (breaks .entry)) (now (uncovered .entry)) (now (places .entry))) .tables) ⌝ }
 {
-    if !judging::are_full(
+    if !agreeing::are_full(
         names,
         values,
         starts,

@@ -14,7 +14,7 @@ use Rattle.laws.proofs.Each.{at, by-each, each-at}
 use Rattle.laws.proofs.Holding.{full-at, cleared-at}
 use Rattle.machine.specs.Passes.{zeroed}
 use Rattle.machine.proofs.Cleared.{zeroed-over}
-use Rattle.drafts.specs.Drafting.{Desk}
+use Rattle.reading_lines.specs.Drafting.{Desk}
 use Rattle.reading_end.specs.Clearing.{blanked, deskIn, wiped, Others, othersIn, wipedOthers, restZeroed}
 
 -- ---- all tables

@@ -9,7 +9,7 @@ use Rattle.machine.specs.Moving.{Fixed, fixed, Moving, moving, view}
 use Rattle.machine.specs.Passes.{zeroed, rewritten, restPlace, closed, CanClose, blank, counted, recounted, CanRecount}
 use Rattle.machine.specs.Filling.{roundsIn, CanRound}
 use Rattle.machine.proofs.Calls.{is-closed}
-use Rattle.drafts.specs.declared.Place.{Place}
+use Rattle.reading_lines.specs.declared.Place.{Place}
 use Rattle.reading_end.specs.Clearing.{restZeroed}
 use Rattle.reading_end.specs.Finishing.{finishing, tidyClauses, tidyMoving, turned, laidOut, countedOut, countsAt, finished, CanFinish}
 

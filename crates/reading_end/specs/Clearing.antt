@@ -6,7 +6,7 @@ use Rattle.written.specs.Lists.{padded}
 use Rattle.written.specs.Limits.{Limits}
 use Rattle.written.specs.Tables.{Tables, each, fullSizes, over}
 use Rattle.machine.specs.Passes.{zeroed}
-use Rattle.drafts.specs.Drafting.{Desk, desk}
+use Rattle.reading_lines.specs.Drafting.{Desk, desk}
 
 -- the ten tables, each in its full size
 unfoldable pub blanked : Limits → Tables → Tables

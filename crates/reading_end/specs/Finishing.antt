@@ -9,7 +9,7 @@ use Rattle.machine.specs.Tallies.{tallies}
 use Rattle.machine.specs.Moving.{Fixed, fixed, Moving, moving, view}
 use Rattle.machine.specs.Passes.{zeroed, closed, CanClose, recounted, CanRecount}
 use Rattle.machine.specs.Filling.{roundsIn, CanRound}
-use Rattle.drafts.specs.declared.Place.{Place}
+use Rattle.reading_lines.specs.declared.Place.{Place}
 use Rattle.reading_end.specs.Clearing.{restZeroed}
 
 -- what finishing gives: the counts, and all tables but the names

@@ -6,11 +6,11 @@ ghost use lib.ListN.{length};
 ghost use Rattle.written.specs.Limits.{narrow};
 ghost use Rattle.machine.specs.Tallies.{tallies};
 ghost use Rattle.machine.specs.Moving.{fixed, moving};
-ghost use Rattle.drafts.specs.Drafting.{desk};
+ghost use Rattle.reading_lines.specs.Drafting.{desk};
 ghost use Rattle.reading_end.specs.Tests.{textTests};
 ghost use Rattle.reading_end.specs.Clearing.{wiped, others, wipedOthers, restZeroed};
 ghost use Rattle.reading_end.specs.Finishing.{finishing, finished, CanFinish};
-use drafts::Place;
+use reading_lines::Place;
 use written::Counts;
 use written::Reason;
 
@@ -116,7 +116,7 @@ pub fn finish(
         literals: p.from as u32,
         uncovered: 0,
     };
-    rounds::turn_round(
+    occurrences::turn_round(
         n,
         starts,
         literals,

@@ -44,7 +44,7 @@ fn main() {
     let mut input = [0u8; 65537];
     let mut out = [0u8; 20544];
     let seen = read_input(&mut input);
-    let n = alone::run_read(&input, seen.read, seen.last, &mut out);
+    let n = running_alone::run_read(&input, seen.read, seen.last, &mut out);
     if n == 0 {
         os::fail(b"run: no result, since standard input could not be read to its end");
         return;

@@ -18,16 +18,16 @@ use Rattle.written.specs.Printed.{refusal}
 use Rattle.written.specs.Program.{Ran, unbegun, unread, afterReading, courseOf, said, reportSize, tablesAfter, runRefused, ran, runOf}
 use Rattle.laws.proofs.RunCalls.{run-short, run-ran}
 use Rattle.machine.proofs.Tests.{said-no, said-yes}
-use Rattle.inputs.specs.declared.Outset.{Outset}
-use Rattle.inputs.specs.declared.Outset.the-variants.{Long, Refused, Begins}
-use Rattle.inputs.specs.Outsets.{outsetOf}
-use Rattle.inputs.proofs.Courses.{Says, outset-says}
-use Rattle.drafts.specs.Drafting.{Desk}
+use Rattle.running_input.specs.declared.Outset.{Outset}
+use Rattle.running_input.specs.declared.Outset.the-variants.{Long, Refused, Begins}
+use Rattle.running_input.specs.Outsets.{outsetOf}
+use Rattle.running_input.proofs.Courses.{Says, outset-says}
+use Rattle.reading_lines.specs.Drafting.{Desk}
 use Rattle.reading_end.specs.Clearing.{Others, wiped, wipedOthers, deskIn, othersIn}
 use Rattle.reading_end.proofs.Cleared.{both-wiped, blanked-is}
-use Rattle.reports.specs.Pages.{page, put, CanPut}
-use Rattle.solving.specs.Running.{answered, ended, CanRun, CanRead}
-use Rattle.solving.proofs.Ends.{ended-by, refusal-room}
+use Rattle.running_report.specs.Pages.{page, put, CanPut}
+use Rattle.running_text.specs.Running.{answered, ended, CanRun, CanRead}
+use Rattle.running_text.proofs.Ends.{ended-by, refusal-room}
 
 module _ (lim : Limits) (input : List ℕ) (t : Tables) (b : List ℕ) (can : CanRun lim t b) where
   -- a was told of how it sets out, and is o

@@ -4,8 +4,8 @@ ghost use mathlib.Core.Path.{_≡_};
 ghost use Rattle.written.specs.Limits.{narrow};
 ghost use Rattle.written.specs.Tables.{lent};
 ghost use Rattle.written.specs.Program.{courseOf, ran, runRefused, runOf};
-ghost use Rattle.solving.specs.Running.{answered, ended, CanRun};
-use inputs::Outset;
+ghost use Rattle.running_text.specs.Running.{answered, ended, CanRun};
+use running_input::Outset;
 use written::Reason;
 use written::RunAnswer;
 
@@ -31,17 +31,17 @@ fn begin(
         ≡ ran narrow (lent (now (names .entry)) (now (values .entry)) (now (starts .entry)) (now (literals .entry))
         (now («occurrence_starts» .entry)) (now (occurrences .entry)) (now (trues .entry)) (now (breaks .entry)) (now (uncovered .entry)) (now (places .entry))) (now (out .entry)) (courseOf narrow (now (input .entry))) ⌝ }
 {
-    match inputs::set_out(input) {
+    match running_input::set_out(input) {
         Outset::Long(e) => {
             reading_end::clear_draft(names, starts, literals, breaks, places);
             reading_end::clear_others(values, occurrence_starts, occurrences, trues, uncovered);
-            reports::refusal(out, e)
+            running_report::refusal(out, e)
         }
-        Outset::Refused(e) => reports::refusal(out, e),
+        Outset::Refused(e) => running_report::refusal(out, e),
         Outset::Begins(s) => {
             let order = s.order;
             let at = s.at as usize;
-            solving::read_on(
+            running_text::read_on(
                 order,
                 &input[at..],
                 names,
@@ -91,7 +91,7 @@ pub fn run_sheet(
         ≡ runOf narrow (now (input .entry)) (lent (now (names .entry)) (now (values .entry)) (now (starts .entry)) (now (literals .entry))
         (now («occurrence_starts» .entry)) (now (occurrences .entry)) (now (trues .entry)) (now (breaks .entry)) (now (uncovered .entry)) (now (places .entry))) (now (out .entry)) ⌝ }
 {
-    if !judging::are_full(
+    if !agreeing::are_full(
         names,
         values,
         starts,

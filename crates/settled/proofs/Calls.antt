@@ -3,13 +3,13 @@ use mathlib.Core.Path.{refl, ap}
 use Rattle.settled.specs.Outcomes.{Public}
 use Rattle.settled.proofs.Facts.{meet, same, both, ten, five}
 use Rattle.written.specs.Program.{Ran}
-use Rattle.judging.proofs.are_full as are-full
-use Rattle.judging.proofs.agrees as agrees
+use Rattle.agreeing.proofs.are_full as are-full
+use Rattle.agreeing.proofs.agrees as agrees
 use Rattle.reading.proofs.read as read
-use Rattle.lists.proofs.apply as apply
-use Rattle.walk_calls.proofs.walk as walk
-use Rattle.sheets.proofs.sheet as sheet
-use Rattle.inputs.proofs.set_out as set-out
+use Rattle.flipping_lists.proofs.apply as apply
+use Rattle.walking_call.proofs.walk as walk
+use Rattle.running_sheet.proofs.sheet as sheet
+use Rattle.running_input.proofs.set_out as set-out
 use Rattle.running.proofs.run_sheet as run-sheet
 use Rattle.ngiyarumba.proofs.draws.ngi_draw as ngi-draw
 use Rattle.ngiyarumba.proofs.draws.ngi_choice as ngi-choice

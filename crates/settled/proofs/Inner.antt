@@ -5,10 +5,10 @@ use mathlib.Core.List.{List}
 use Rattle.machine.specs.Uncovered.{Uncovered}
 use Rattle.machine.specs.Tallies.{Tallies}
 use Rattle.machine.specs.Moving.{Moving}
-use Rattle.drafts.specs.Drafting.{Desk}
+use Rattle.reading_lines.specs.Drafting.{Desk}
 use Rattle.reading_end.specs.Clearing.{Others}
 use Rattle.reading_end.specs.Finishing.{Finished}
-use Rattle.reports.specs.Pages.{Page}
+use Rattle.running_report.specs.Pages.{Page}
 use Rattle.written.specs.Program.{Ran}
 use Rattle.settled.specs.Outcomes.{Public, Inner}
 use Rattle.settled.proofs.Facts.{meet, same, both, all-three, ten, five}
@@ -20,27 +20,27 @@ use Rattle.tables.proofs.clear_words as clear-words
 use Rattle.tables.proofs.clear_names as clear-names
 use Rattle.tables.proofs.raise as raise
 use Rattle.tables.proofs.enter as enter
-use Rattle.rounds.proofs.turn_round as turn-round
+use Rattle.occurrences.proofs.turn_round as turn-round
 use Rattle.recounts.proofs.open_all as open-all
 use Rattle.recounts.proofs.close_all as close-all
 use Rattle.recounts.proofs.count_afresh as count-afresh
-use Rattle.filed.proofs.clauses_hold as clauses-hold
-use Rattle.counted.proofs.counts_agree as counts-agree
-use Rattle.rests.proofs.rests_agree as rests-agree
+use Rattle.agreeing_file.proofs.clauses_hold as clauses-hold
+use Rattle.agreeing_counts.proofs.counts_agree as counts-agree
+use Rattle.agreeing_rest.proofs.rests_agree as rests-agree
 use Rattle.names.proofs.add as add
-use Rattle.flips.proofs.flip_term as flip-term
-use Rattle.flips.proofs.flip_all as flip-all
-use Rattle.choosing.proofs.chosen_from as chosen-from
-use Rattle.walks.proofs.walk_tested as walk-tested
+use Rattle.flipping.proofs.flip_term as flip-term
+use Rattle.flipping.proofs.flip_all as flip-all
+use Rattle.walking_choice.proofs.chosen_from as chosen-from
+use Rattle.walking.proofs.walk_tested as walk-tested
 use Rattle.reading_end.proofs.verdict as verdict
 use Rattle.reading_end.proofs.clear_draft as clear-draft
 use Rattle.reading_end.proofs.clear_others as clear-others
 use Rattle.reading_end.proofs.finish as finish
-use Rattle.reports.proofs.refusal as refusal
-use Rattle.reports.proofs.report as report
-use Rattle.solving.proofs.read_on as read-on
-use Rattle.alone.proofs.run_alone as run-alone
-use Rattle.alone.proofs.run_read as run-read
+use Rattle.running_report.proofs.refusal as refusal
+use Rattle.running_report.proofs.report as report
+use Rattle.running_text.proofs.read_on as read-on
+use Rattle.running_alone.proofs.run_alone as run-alone
+use Rattle.running_alone.proofs.run_read as run-read
 
 pub true-count-settled : Public true-count.ended (λ M. true-count.clauses)
 true-count-settled M 𝓤 H A mem run κs a g = record { asks-nothing = refl; one-outcome = λ x y. both 𝓤 (λ p q. same (meet p q) refl) }

@@ -14,17 +14,17 @@ use Rattle.machine.specs.Slots.{Vacant}
 use Rattle.names.specs.declared.Found.{Found}
 use Rattle.names.specs.declared.Found.the-variants.{At, New}
 use Rattle.names.specs.Finding.{Finds}
-use Rattle.choosing.specs.declared.Picked.{Picked}
-use Rattle.stepping.specs.declared.At.{At as Standing}
-use Rattle.taking.specs.declared.Taken.{Taken}
-use Rattle.taking.specs.Taking.{newTerms, newLiterals, putIf, Took}
+use Rattle.walking_choice.specs.declared.Picked.{Picked}
+use Rattle.walking_steps.specs.declared.At.{At as Standing}
+use Rattle.reading_literal.specs.declared.Taken.{Taken}
+use Rattle.reading_literal.specs.Taking.{newTerms, newLiterals, putIf, Took}
 use Rattle.settled.specs.Outcomes.{Inner, InnerSeen}
 use Rattle.settled.proofs.Facts.{meet, same, all-three}
 use Rattle.tables.proofs.part as part
 use Rattle.names.proofs.find as find
-use Rattle.choosing.proofs.literal_in as literal-in
-use Rattle.stepping.proofs.one_walk as one-walk
-use Rattle.taking.proofs.take as taken
+use Rattle.walking_choice.proofs.literal_in as literal-in
+use Rattle.walking_steps.proofs.one_walk as one-walk
+use Rattle.reading_literal.proofs.take as taken
 
 -- a search has one answer: where the name first stands, or the first empty slot
 one-slot : {H : ℕ} {known slots : List ℕ} {name s u : ℕ} → Vacant H known slots name s → Vacant H known slots name u → s ≡ u

@@ -1,6 +1,6 @@
 -- `examples::show` is safe: there is room for what it prints. Assumes nothing.
 use borrow.Author.Needs.{needs}
-use Rattle.alone.proofs.Alone.{report-room}
+use Rattle.running_alone.proofs.Alone.{report-room}
 use Rattle.examples.proofs.show.Statement.{statement}
 use Rattle.examples.proofs.show.Tie as tie
 

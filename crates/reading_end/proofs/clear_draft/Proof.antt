@@ -1,7 +1,7 @@
 -- `reading_end::clear_draft` meets its contract: it is put together from its calls. Assumes nothing.
 use borrow.Author.Needs.{needs}
 use Rattle.written.specs.Tables.{sizes, fullSizes}
-use Rattle.drafts.specs.Drafting.{desk}
+use Rattle.reading_lines.specs.Drafting.{desk}
 use Rattle.reading_end.specs.Clearing.{wiped}
 use Rattle.reading_end.proofs.clear_draft.Statement.{statement}
 use Rattle.reading_end.proofs.clear_draft.Tie as tie

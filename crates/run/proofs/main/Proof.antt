@@ -1,6 +1,6 @@
 -- `run::main` is safe: it sees enough of its input, and what is printed is within the buffer. Assumes nothing.
 use borrow.Author.Needs.{needs}
-use Rattle.alone.proofs.Alone.{report-room}
+use Rattle.running_alone.proofs.Alone.{report-room}
 use Rattle.run.proofs.main.Statement.{statement}
 use Rattle.run.proofs.main.Tie as tie
 

@@ -1,4 +1,4 @@
--- `ngiyarumba::flip::ngi_flip` meets its contract: it is `lists::apply`, its answer taken apart. Assumes nothing.
+-- `ngiyarumba::flip::ngi_flip` meets its contract: it is `flipping_lists::apply`, its answer taken apart. Assumes nothing.
 use mathlib.Core.Path.{ap, _∙_}
 use borrow.Author.Needs.{needs}
 use Rattle.answers.specs.Answers.{flipAnswer}

@@ -1,4 +1,4 @@
--- `ngiyarumba::walk::ngi_walk` meets its contract: it is `walk_calls::walk`, its answer taken apart. Assumes nothing.
+-- `ngiyarumba::walk::ngi_walk` meets its contract: it is `walking_call::walk`, its answer taken apart. Assumes nothing.
 use mathlib.Core.Path.{ap, _∙_}
 use borrow.Author.Needs.{needs}
 use Rattle.answers.specs.Answers.{walkAnswer}

@@ -1,0 +1,177 @@
+// Whether lent tables agree (reason 12), for any contents, any lengths and any counts; nothing is changed. The points are tested in the
+// document's order, and a function here may ask what the points before it have shown.
+ghost use mathlib.Core.Path.{_≡_};
+ghost use mathlib.Core.Bool.{true, _&&_};
+ghost use Rattle.written.specs.Limits.{narrow};
+ghost use Rattle.written.specs.Tables.{lent, areFull};
+ghost use Rattle.written.specs.Agreement.{countsFit, agree};
+use written::Counts;
+
+// ---- full sizes and counts
+
+// The counts are within their limits, and at least one clause stands.
+fn counts_fit(n: Counts) -> bool
+    ensures { λ r. ⌜ r ≡ countsFit narrow n ⌝ }
+{
+    if n.terms > 2048 {
+        return false;
+    }
+    if n.clauses > 8192 {
+        return false;
+    }
+    if n.literals > 16384 {
+        return false;
+    }
+    if n.uncovered > 8192 {
+        return false;
+    }
+    n.clauses > 0
+}
+
+// No lent table is shorter than its full size (reason 1).
+pub fn are_full(
+    names: &[u64],
+    values: &[u32],
+    starts: &[u16],
+    literals: &[u16],
+    occurrence_starts: &[u16],
+    occurrences: &[u16],
+    trues: &[u16],
+    breaks: &[u16],
+    uncovered: &[u16],
+    places: &[u16],
+) -> bool
+    ensures { λ r. ⌜ r ≡ areFull narrow (lent (now (names .entry)) (now (values .entry)) (now (starts .entry)) (now (literals .entry))
+        (now («occurrence_starts» .entry)) (now (occurrences .entry)) (now (trues .entry)) (now (breaks .entry)) (now (uncovered .entry)) (now (places .entry))) ⌝ }
+{
+    if names.len() < 2048 {
+        return false;
+    }
+    if values.len() < 64 {
+        return false;
+    }
+    if starts.len() < 8193 {
+        return false;
+    }
+    if literals.len() < 16384 {
+        return false;
+    }
+    if occurrence_starts.len() < 4097 {
+        return false;
+    }
+    if occurrences.len() < 16384 {
+        return false;
+    }
+    if trues.len() < 8192 {
+        return false;
+    }
+    if breaks.len() < 2048 {
+        return false;
+    }
+    if uncovered.len() < 8192 {
+        return false;
+    }
+    places.len() >= 8192
+}
+
+// ---- all points together
+
+// Counts that fit agree with full tables.
+fn points_agree(
+    n: Counts,
+    names: &[u64],
+    values: &[u32],
+    starts: &[u16],
+    literals: &[u16],
+    occurrence_starts: &[u16],
+    occurrences: &[u16],
+    trues: &[u16],
+    breaks: &[u16],
+    uncovered: &[u16],
+    places: &[u16],
+) -> bool
+    requires { ⌜ (areFull narrow (lent (now names) (now values) (now starts) (now literals) (now «occurrence_starts») (now occurrences)
+        (now trues) (now breaks) (now uncovered) (now places)) ≡ true) × (countsFit narrow n ≡ true) ⌝ }
+    ensures { λ r. ⌜ r ≡ agree narrow n (lent (now (names .entry)) (now (values .entry)) (now (starts .entry)) (now (literals .entry))
+        (now («occurrence_starts» .entry)) (now (occurrences .entry)) (now (trues .entry)) (now (breaks .entry)) (now (uncovered .entry)) (now (places .entry))) ⌝ }
+{
+    if agreeing_file::clauses_hold(n, names, starts, literals, occurrence_starts, occurrences) {
+        if agreeing_counts::counts_agree(
+            n,
+            values,
+            starts,
+            literals,
+            occurrence_starts,
+            occurrences,
+            trues,
+            breaks,
+            uncovered,
+            places,
+        ) {
+            return agreeing_rest::rests_agree(
+                n,
+                names,
+                values,
+                starts,
+                literals,
+                occurrence_starts,
+                occurrences,
+                trues,
+                breaks,
+                uncovered,
+                places,
+            );
+        }
+    }
+    false
+}
+
+// The tables are full and agree.
+pub fn agrees(
+    n: Counts,
+    names: &[u64],
+    values: &[u32],
+    starts: &[u16],
+    literals: &[u16],
+    occurrence_starts: &[u16],
+    occurrences: &[u16],
+    trues: &[u16],
+    breaks: &[u16],
+    uncovered: &[u16],
+    places: &[u16],
+) -> bool
+    ensures { λ r. ⌜ r ≡ (areFull narrow (lent (now (names .entry)) (now (values .entry)) (now (starts .entry)) (now (literals .entry))
+        (now («occurrence_starts» .entry)) (now (occurrences .entry)) (now (trues .entry)) (now (breaks .entry)) (now (uncovered .entry)) (now (places .entry)))
+        && agree narrow n (lent (now (names .entry)) (now (values .entry)) (now (starts .entry)) (now (literals .entry))
+        (now («occurrence_starts» .entry)) (now (occurrences .entry)) (now (trues .entry)) (now (breaks .entry)) (now (uncovered .entry)) (now (places .entry)))) ⌝ }
+{
+    if are_full(
+        names,
+        values,
+        starts,
+        literals,
+        occurrence_starts,
+        occurrences,
+        trues,
+        breaks,
+        uncovered,
+        places,
+    ) {
+        if counts_fit(n) {
+            return points_agree(
+                n,
+                names,
+                values,
+                starts,
+                literals,
+                occurrence_starts,
+                occurrences,
+                trues,
+                breaks,
+                uncovered,
+                places,
+            );
+        }
+    }
+    false
+}

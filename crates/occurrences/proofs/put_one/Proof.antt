@@ -1,0 +1,11 @@
+use Rattle.machine.proofs.Filling.{put-is}
+use borrow.Author.Needs.{needs}
+use Rattle.occurrences.proofs.put_one.Statement.{statement}
+use Rattle.occurrences.proofs.put_one.Tie as tie
+
+pub put-one-spec : {M : Type 1} → statement M
+put-one-spec =
+    tie.close
+    (tie.spec (λ c. search needs) (λ c. search needs) (λ c. search needs) (λ c. search needs) (λ c. search needs) (λ c. search needs)
+    (λ c. search needs) (λ c. search needs) (λ c. search needs) (λ c. search needs) (λ c. search needs) (λ c. search needs) (λ c. search needs)
+    (λ c. search needs) (λ c κs. search needs) (λ c κs. search needs) (λ c. search needs) (λ c. search needs) (λ c. search put-is))

@@ -1,0 +1,174 @@
+// The order sheet: four lines of a key and a number, judged from the top.
+ghost use mathlib.Core.Path.{_≡_};
+ghost use mathlib.Core.Bool.{true};
+ghost use lib.ListN.{length, take};
+ghost use Rattle.written.specs.Lists.{all, same};
+ghost use Rattle.written.specs.Sheet.{isDigit, isNumber, valueOfDigits, sheetOf};
+ghost use Rattle.running_sheet.specs.Lines.{range, lineOf, refusedAt};
+use written::Fault;
+use written::Order;
+use written::Ordered;
+use written::Reason;
+use written::Sheet;
+
+// A line's number, and how many bytes it takes with its byte 10.
+struct Entry {
+    number: u32,
+    size: usize,
+}
+
+// What a line comes to.
+enum Verdict {
+    Taken(Entry),
+    Faulty(Reason),
+}
+
+// The bytes begin with the key.
+fn begins(rest: &[u8], key: &[u8]) -> bool
+    ensures { λ r. ⌜ r ≡ same (take (length (now (key .entry))) (now (rest .entry))) (now (key .entry)) ⌝ }
+{
+    let mut i: usize = 0;
+    while i < key.len() {
+        if rest.len() <= i {
+            return false;
+        }
+        if rest[i] != key[i] {
+            return false;
+        }
+        i += 1;
+    }
+    true
+}
+
+fn is_digit(b: u8) -> bool
+    ensures { λ r. ⌜ r ≡ isDigit b ⌝ }
+{
+    48 <= b && b <= 57
+}
+
+// Every byte is a digit.
+fn all_digits(digits: &[u8]) -> bool
+    ensures { λ r. ⌜ r ≡ all isDigit (now (digits .entry)) ⌝ }
+{
+    let mut i: usize = 0;
+    while i < digits.len() {
+        if !is_digit(digits[i]) {
+            return false;
+        }
+        i += 1;
+    }
+    true
+}
+
+// A number has 1 to 10 digits, no leading 0 except 0 itself.
+fn is_number(digits: &[u8]) -> bool
+    ensures { λ r. ⌜ r ≡ isNumber (now (digits .entry)) ⌝ }
+{
+    let n = digits.len();
+    if n == 0 {
+        return false;
+    }
+    if 10 < n {
+        return false;
+    }
+    if !all_digits(digits) {
+        return false;
+    }
+    n == 1 || digits[0] != 48
+}
+
+// Ten digits can exceed 32 bits, and not 64.
+fn value(digits: &[u8]) -> u64
+    requires { ⌜ isNumber (now digits) ≡ true ⌝ }
+    ensures { λ r. ⌜ r ≡ valueOfDigits (now (digits .entry)) ⌝ }
+{
+    let mut n: u64 = 0;
+    let mut i: usize = 0;
+    while i < digits.len() {
+        n = 10 * n + (digits[i] - 48) as u64;
+        i += 1;
+    }
+    n
+}
+
+// The first line of the rest: its form, then its range.
+fn line(rest: &[u8], key: &[u8], least: u32, most: u32) -> Verdict
+    ensures { λ r. ⌜ r ≡ lineOf (now (key .entry)) (range least most) (now (rest .entry)) ⌝ }
+{
+    let end = scan::line_end(rest, 0);
+    if rest.len() <= end {
+        return Verdict::Faulty(Reason::SheetForm);
+    }
+    if !begins(rest, key) {
+        return Verdict::Faulty(Reason::SheetForm);
+    }
+    let from = key.len();
+    if end < from {
+        return Verdict::Faulty(Reason::SheetForm);
+    }
+    if !is_number(&rest[from..end]) {
+        return Verdict::Faulty(Reason::SheetForm);
+    }
+    let n = value(&rest[from..end]);
+    if n < (least as u64) {
+        return Verdict::Faulty(Reason::OutOfRange);
+    }
+    if (most as u64) < n {
+        return Verdict::Faulty(Reason::OutOfRange);
+    }
+    Verdict::Taken(Entry {
+        number: n as u32,
+        size: end + 1,
+    })
+}
+
+// The refusal of line i of the sheet.
+fn refused(i: u32, line: Verdict) -> Ordered
+    ensures { λ r. ⌜ r ≡ refusedAt i line ⌝ }
+{
+    match line {
+        Verdict::Faulty(reason) => Ordered::Refused(Fault {
+            reason: reason,
+            line: i,
+        }),
+        Verdict::Taken(e) => Ordered::Refused(Fault {
+            reason: Reason::SheetForm,
+            line: i,
+        }),
+    }
+}
+
+// The four lines, the first faulty one named; and where the clause text begins.
+pub fn sheet(input: &[u8]) -> Ordered
+    ensures { λ r. ⌜ r ≡ sheetOf (now (input .entry)) ⌝ }
+{
+    let first = line(input, b"seed=", 1, 4294967295);
+    let Verdict::Taken(s) = first else {
+        return refused(1, first);
+    };
+    let to_flips = s.size;
+    let second = line(&input[to_flips..], b"flips=", 0, 100000);
+    let Verdict::Taken(f) = second else {
+        return refused(2, second);
+    };
+    let to_walks = to_flips + f.size;
+    let third = line(&input[to_walks..], b"walks=", 1, 1000);
+    let Verdict::Taken(w) = third else {
+        return refused(3, third);
+    };
+    let to_bias = to_walks + w.size;
+    let fourth = line(&input[to_bias..], b"bias=", 0, 1000);
+    let Verdict::Taken(b) = fourth else {
+        return refused(4, fourth);
+    };
+    let order = Order {
+        seed: s.number,
+        flips: f.number,
+        walks: w.number,
+        bias: b.number,
+    };
+    Ordered::Accepted(Sheet {
+        order: order,
+        at: (to_bias + b.size) as u32,
+    })
+}

@@ -1,0 +1,94 @@
+-- A reading in a run: refused, it is printed and the tables are 0; accepted, a walk can follow and goes over the file that was read. Assumes nothing.
+use Prim.Native.Nat.{ℕ, _+_, _^_, _≤_, _<_}
+use mathlib.Core.Logic.{_⊎_, inl, inr}
+use mathlib.Core.Path.{_≡_, refl, ap, sym, subst, _∙_}
+use mathlib.Core.Bool.{true≢false}
+use mathlib.Core.List.{List}
+use native.Mathlib.Omega.{arith}
+use lib.ListN.{length}
+use borrow.Author.Tests.{lt-ltb}
+use Rattle.written.specs.declared.Counts.{Counts}
+use Rattle.written.specs.declared.Order.{Order}
+use Rattle.written.specs.declared.Fault.{Fault}
+use Rattle.written.specs.declared.Reason.the-variants.{LongText}
+use Rattle.written.specs.declared.Read.{Read}
+use Rattle.written.specs.declared.Read.the-variants as R
+use Rattle.written.specs.Limits.{Limits}
+use Rattle.written.specs.Reasons.{fault}
+use Rattle.written.specs.Clauses.{File, State, asRead, afresh}
+use Rattle.written.specs.Reading.{Reading, accepted, refused, readText}
+use Rattle.written.specs.Tables.{Tables, over}
+use Rattle.written.specs.Agreement.{fileIn, stateIn}
+use Rattle.written.specs.Walk.{walkOver}
+use Rattle.written.specs.Outcomes.{readingOf}
+use Rattle.written.specs.Printed.{refusal}
+use Rattle.written.specs.Program.{Ran, walked, afterReading, said, tablesAfter, ran}
+use Rattle.laws.specs.Calls.{Stands}
+use Rattle.laws.proofs.Basics.{by-lt}
+use Rattle.laws.proofs.Faults.{refusal-line-bound}
+use Rattle.laws.proofs.Holding.{holding-by}
+use Rattle.laws.proofs.Stands.{stands-allowed}
+use Rattle.laws.proofs.Valids.{end-valid}
+use Rattle.laws.proofs.ReadCalls.{reading-accepted, reading-refused}
+use Rattle.laws.specs.ReadCalls.{LeftAlone, Emptied}
+use Rattle.running_report.specs.Pages.{page, put, CanPut}
+use Rattle.running_text.specs.Running.{ended, CanRead, CanWalk}
+use Rattle.running_text.proofs.Ends.{ended-by, refusal-room}
+
+abbrev lineIn : Reading → ℕ
+lineIn (accepted f) = 0
+lineIn (refused e) = e .line
+
+long-text : (lim : Limits) (text : List ℕ) → lim .text < length text → readText lim text ≡ refused (fault LongText)
+unfolding readText
+long-text lim text l = rw (lt-ltb (lim .text) (length text) l) refl
+
+-- a text that is too long is refused without a line, so no line is past the limit
+refused-line : (lim : Limits) (text : List ℕ) (e : Fault) → readText lim text ≡ refused e → e .line ≤ lim .text
+refused-line lim text e q =
+    by-lt (lim .text) (length text) (λ l. omega (arith, ap lineIn (sym q ∙ long-text lim text l))) (λ s. omega (arith, refusal-line-bound lim text e q))
+
+module _ (lim : Limits) (o : Order) (text : List ℕ) (t : Tables) (b : List ℕ) (can : CanRead lim o t b) where
+  module _ (e : Fault) {a : Read} (answer : a ≡ readingOf lim text t .answer) (told : a ≡ R.Refused e) where
+    emptied : Emptied lim text t e (readingOf lim text t .tables)
+    emptied = by-fullness (reading-refused lim text t e (sym answer ∙ told))
+      where
+        by-fullness : LeftAlone lim t e (readingOf lim text t .tables) ⊎ Emptied lim text t e (readingOf lim text t .tables) → Emptied lim text t e (readingOf lim text t .tables)
+        by-fullness (inl h) = absurd (true≢false (sym (can .run .full) ∙ h .short))
+        by-fullness (inr h) = h
+
+    pub refused-fits : lim .text + 1 < 10 ^ 20 → CanPut (refusal e) (page 0 b)
+    refused-fits short = refusal-room lim t b (can .run) e short (omega (arith, refused-line lim text e (emptied .read)))
+
+    pub refused-ends : {r : ℕ} {u : Tables} {out : List ℕ} → u ≡ readingOf lim text t .tables → page r out ≡ put (refusal e) (page 0 b)
+        → ended r u out ≡ ran lim t b (afterReading o (readText lim text))
+    unfolding afterReading said tablesAfter
+    refused-ends tables written = rw (emptied .read) (ended-by lim t b (afterReading o (refused e)) (tables ∙ emptied .left) written)
+
+  module _ (n : Counts) {a : Read} (answer : a ≡ readingOf lim text t .answer) (told : a ≡ R.Accepted n) {u : Tables}
+      (tables : u ≡ readingOf lim text t .tables) where
+    abbrev file : File
+    file = reading-accepted lim text t n (sym answer ∙ told) .0
+
+    said-so : readText lim text ≡ accepted file
+    said-so = reading-accepted lim text t n (sym answer ∙ told) .2
+
+    stands : Stands lim (asRead file) t n u
+    stands = subst (λ (w : Tables). Stands lim (asRead file) t n w) (sym tables) (reading-accepted lim text t n (sym answer ∙ told) .3 .stands)
+
+    pub accepted-walks : CanWalk lim o n u b
+    accepted-walks = record { allowed = stands-allowed lim (asRead file) t n u stands o (can .range); room = can .run .room }
+
+    same-file : fileIn n u ≡ file
+    unfolding stateIn asRead afresh
+    same-file = ap (λ (s : State). s .file) (stands .state)
+
+    same-ran : ran lim u b (walked (walkOver o file)) ≡ ran lim t b (walked (walkOver o file))
+    unfolding ran said tablesAfter asRead afresh
+    same-ran =
+        let held = holding-by lim (walkOver o file .last .state) u t (end-valid lim o file (stands .valid .proper)) (stands .beyond) in
+        λ i. ended (length (said (walked (walkOver o file)))) (held i) (over (said (walked (walkOver o file))) b)
+
+    pub accepted-ends : {z : Ran} → z ≡ ran lim u b (walked (walkOver o (fileIn n u))) → z ≡ ran lim t b (afterReading o (readText lim text))
+    unfolding afterReading
+    accepted-ends e = e ∙ ap (λ (f : File). ran lim u b (walked (walkOver o f))) same-file ∙ same-ran ∙ ap (λ (r : Reading). ran lim t b (afterReading o r)) (sym said-so)

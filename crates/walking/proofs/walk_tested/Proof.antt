@@ -1,0 +1,53 @@
+-- `walking::walk_tested` meets its contract: walks on tables that agree, closed at the end. Assumes nothing.
+use Prim.Native.Nat.{_^_}
+use mathlib.Core.Path.{refl, _∙_}
+use native.Mathlib.Omega.{arith}
+use borrow.Author.Needs.{needs}
+use Rattle.written.specs.Limits.{narrow}
+use Rattle.walking.proofs.Outcome.{can-walk, can-close, number-low, found-answer, gave-up-answer, tables-are}
+use Rattle.walking.proofs.walk_tested.Statement.{statement}
+use Rattle.walking.proofs.walk_tested.Tie as tie
+
+all-walks-requires : tie.Need-all-walks-requires
+all-walks-requires c κs = can-walk narrow _ _ _ (c .before .before .before .before .before .before .before .before .before .before .before .before .before .before .before .before .before .before .pre) (c .new .ensures) 65536 (omega arith) (omega arith) (omega arith) (2 ^ 32) (omega arith)
+
+close-all-requires : tie.Need-close-all-requires
+close-all-requires c κs = can-close narrow _ _ _ (c .before .before .before .before .before .before .before .before .before .before .before .before .before .before .before .before .before .before .before .before .before .before .before .before .before .before .before .before .before .before .before .before .before .pre) (c .before .before .before .before .before .before .before .before .before .before .before .before .before .before .before .new .ensures) 65536 (omega arith) (omega arith) (omega arith) (c .before .before .before .before .before .before .before .before .before .before .before .before .before .before .all-walks .ensures)
+
+cast-t37 : tie.Need-cast-t37
+cast-t37 c = omega (arith, number-low narrow _ _ _ (c .before .before .before .before .before .before .before .before .before .before .before .before .before .before .before .before .before .before .before .before .before .before .before .before .before .before .before .before .before .before .before .before .before .before .before .before .before .before .pre) (c .before .before .before .before .before .before .before .before .before .before .before .before .before .before .before .before .before .before .before .before .new .ensures) 65536 (omega arith) (omega arith) (omega arith) (c .before .before .before .before .before .before .before .before .before .before .before .before .before .before .before .before .before .before .before .all-walks .ensures))
+
+returns : tie.Need-returns
+returns c =
+    let p = c .before .before .before .before .before .before .before .before .before .before .before .before .before .before .before .before .before .before .before .before .before .before .before .before .before .before .before .before .before .before .before .before .before .before .before .before .before .before .before .pre in
+    let y = c .before .before .before .before .before .before .before .before .before .before .before .before .before .before .before .before .before .before .before .before .before .new .ensures in
+    let e = c .before .before .before .before .before .before .before .before .before .before .before .before .before .before .before .before .before .before .before .before .all-walks .ensures in
+    (found-answer narrow _ _ _ p y 65536 (omega arith) (omega arith) (omega arith) e (c .if1 .taken), tables-are narrow _ _ _ p y 65536 (omega arith) (omega arith) (omega arith) e (c .before .before .before .before .before .close-all .ensures))
+
+returns-2 : tie.Need-returns-2
+returns-2 c =
+    let p = c .before .before .before .before .before .before .before .before .before .before .before .before .before .before .before .before .before .before .before .before .before .before .before .before .before .before .before .before .before .before .before .before .before .before .before .before .before .before .before .pre in
+    let y = c .before .before .before .before .before .before .before .before .before .before .before .before .before .before .before .before .before .before .before .before .before .new .ensures in
+    let e = c .before .before .before .before .before .before .before .before .before .before .before .before .before .before .before .before .before .before .before .before .all-walks .ensures in
+    (gave-up-answer narrow _ _ _ p y 65536 (omega arith) (omega arith) (omega arith) e (c .if1 .left), tables-are narrow _ _ _ p y 65536 (omega arith) (omega arith) (omega arith) e (c .before .before .before .before .before .close-all .ensures))
+
+pub walk-tested-spec : {M : Type 1} → statement M
+walk-tested-spec =
+    tie.close
+    (tie.spec (λ c. refl) (λ c. search needs) (λ c κs. search needs) all-walks-requires (λ c. search needs) close-all-requires cast-t37
+    (λ c. c .before .before .before .before .before .before .before .before .before .before .before .before .before .before .before .before .before
+    .before .before .values .given)
+    (λ c. c .before .before .before .before .before .before .before .before .before .before .before .before .before .before .before .before
+    .before .trues .given)
+    (λ c. c .before .before .before .before .before .before .before .before .before .before .before .before .before .before .before .breaks .given)
+    (λ c. c .before .before .before .before .before .before .before .before .before .before .before .before .before .uncovered .given)
+    (λ c. let d = c .before .before .before .before in d .places2 .given ∙ d .before .before .before .before .before .before .before .places .given)
+    returns
+    (λ c. c .before .before .before .before .before .before .before .before .before .before .before .before .before .before .before .before .before
+    .before .before .values .given)
+    (λ c. c .before .before .before .before .before .before .before .before .before .before .before .before .before .before .before .before
+    .before .trues .given)
+    (λ c. c .before .before .before .before .before .before .before .before .before .before .before .before .before .before .before .breaks .given)
+    (λ c. c .before .before .before .before .before .before .before .before .before .before .before .before .before .uncovered .given)
+    (λ c. let d = c .before .before .before .before in d .places2 .given ∙ d .before .before .before .before .before .before .before .places .given)
+    returns-2)

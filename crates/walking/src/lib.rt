@@ -1,0 +1,144 @@
+// Walks on tables that have been tested: found or given up.
+// A function that another crate of the library calls may ask something of its tables, by one record, which its caller proves; none is exported.
+ghost use mathlib.Core.Path.{_≡_};
+ghost use Prim.Native.Nat.{_^_};
+ghost use lib.ListN.{length};
+ghost use Rattle.written.specs.Limits.{narrow};
+ghost use Rattle.written.specs.Tables.{lent};
+ghost use Rattle.laws.specs.WalkCalls.{Allowed};
+ghost use Rattle.machine.specs.Tallies.{tallies};
+ghost use Rattle.machine.specs.Moving.{fixed};
+ghost use Rattle.walking_steps.specs.Stepping.{stand};
+ghost use Rattle.walking.specs.Walking.{end, walksIn, CanWalks};
+ghost use Rattle.walking.specs.Made.{walkMade};
+use draw::Generator;
+use walking_steps::At;
+use written::Counts;
+use written::Order;
+use written::Tour;
+use written::Walked;
+
+// How the walks end: found or not, walks begun, and where they stand.
+struct Ended {
+    found: bool,
+    walks: u32,
+    at: At,
+}
+
+// Walks one after the other, until one has found or all are over. The generator goes on from one to the next.
+fn all_walks(
+    order: Order,
+    n: Counts,
+    values: &mut [u32],
+    starts: &[u16],
+    literals: &[u16],
+    occurrence_starts: &[u16],
+    occurrences: &[u16],
+    trues: &mut [u16],
+    breaks: &mut [u16],
+    list: &mut [u16],
+    places: &mut [u16],
+    ties: &mut [u16],
+    from: At,
+) -> Ended
+    requires { ⌜ CanWalks 65536 (length (now ties)) (2 ^ 32) (n .terms) (n .clauses) (order .walks) order (fixed (now starts) (now literals) (now «occurrence_starts») (now occurrences))
+        (stand (now values) (tallies (now trues) (now breaks) (now list) (now places) (from .number)) (from .generator .state) (from .flips)) ⌝ }
+    ensures { λ r. ⌜ end (r .found) (r .walks) (stand (now (values .exit)) (tallies (now (trues .exit)) (now (breaks .exit)) (now (list .exit)) (now (places .exit)) (r .at .number)) (r .at .generator .state) (r .at .flips))
+        ≡ walksIn order (n .terms) (n .clauses) (fixed (now (starts .entry)) (now (literals .entry)) (now («occurrence_starts» .entry)) (now (occurrences .entry))) (order .walks) 0
+        (stand (now (values .entry)) (tallies (now (trues .entry)) (now (breaks .entry)) (now (list .entry)) (now (places .entry)) (from .number)) (from .generator .state) (from .flips)) ⌝ }
+{
+    let mut at = from;
+    let mut begun: u32 = 0;
+    while begun < order.walks {
+        at = walking_steps::one_walk(
+            order,
+            n,
+            values,
+            starts,
+            literals,
+            occurrence_starts,
+            occurrences,
+            trues,
+            breaks,
+            list,
+            places,
+            ties,
+            at,
+        );
+        begun += 1;
+        if at.number == 0 {
+            return Ended {
+                found: true,
+                walks: begun,
+                at: at,
+            };
+        }
+    }
+    Ended {
+        found: false,
+        walks: begun,
+        at: at,
+    }
+}
+
+// The walks of an order on tables that have been tested, or have just been read. The list for the literals at the least is made once.
+pub fn walk_tested(
+    order: Order,
+    n: Counts,
+    names: &[u64],
+    values: &mut [u32],
+    starts: &[u16],
+    literals: &[u16],
+    occurrence_starts: &[u16],
+    occurrences: &[u16],
+    trues: &mut [u16],
+    breaks: &mut [u16],
+    uncovered: &mut [u16],
+    places: &mut [u16],
+) -> Walked
+    requires { ⌜ Allowed narrow order n (lent (now names) (now values) (now starts) (now literals)
+        (now «occurrence_starts») (now occurrences) (now trues) (now breaks) (now uncovered) (now places)) ⌝ }
+    ensures { λ r. ⌜ (r ≡ walkMade narrow order n (lent (now (names .entry)) (now (values .entry)) (now (starts .entry)) (now (literals .entry))
+        (now («occurrence_starts» .entry)) (now (occurrences .entry)) (now (trues .entry)) (now (breaks .entry)) (now (uncovered .entry)) (now (places .entry))) .answer)
+        × (lent (now (names .entry)) (now (values .exit)) (now (starts .entry)) (now (literals .entry))
+        (now («occurrence_starts» .entry)) (now (occurrences .entry)) (now (trues .exit)) (now (breaks .exit)) (now (uncovered .exit)) (now (places .exit))
+        ≡ walkMade narrow order n (lent (now (names .entry)) (now (values .entry)) (now (starts .entry)) (now (literals .entry))
+        (now («occurrence_starts» .entry)) (now (occurrences .entry)) (now (trues .entry)) (now (breaks .entry)) (now (uncovered .entry)) (now (places .entry))) .tables) ⌝ }
+{
+    let mut ties = [0u16; 2048];
+    let e = all_walks(
+        order,
+        n,
+        values,
+        starts,
+        literals,
+        occurrence_starts,
+        occurrences,
+        trues,
+        breaks,
+        uncovered,
+        places,
+        &mut ties,
+        At {
+            number: n.uncovered as usize,
+            generator: Generator::new(order.seed),
+            flips: 0,
+        },
+    );
+    recounts::close_all(n.clauses as usize, trues, places);
+    let at = e.at;
+    let tour = Tour {
+        walks: e.walks,
+        flips: at.flips,
+        counts: Counts {
+            terms: n.terms,
+            clauses: n.clauses,
+            literals: n.literals,
+            uncovered: at.number as u32,
+        },
+    };
+    if e.found {
+        return Walked::Found(tour);
+    }
+    Walked::GaveUp(tour)
+}

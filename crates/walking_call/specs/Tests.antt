@@ -1,0 +1,18 @@
+-- The tests of a walk, in their order: "1, 11, 12". Assumes nothing.
+use mathlib.Core.Bool.{not, cond}
+use Rattle.written.specs.declared.Counts.{Counts}
+use Rattle.written.specs.declared.Order.{Order}
+use Rattle.written.specs.declared.Reason.the-variants.{ShortTable, OutOfRange, Disagreement}
+use Rattle.written.specs.Limits.{Limits}
+use Rattle.written.specs.Tables.{Tables, areFull}
+use Rattle.written.specs.Agreement.{agree}
+use Rattle.written.specs.Orders.{inRange}
+use Rattle.walking_call.specs.declared.Tested.{Tested}
+use Rattle.walking_call.specs.declared.Tested.the-variants.{Passed, Failed}
+
+-- what they come to
+unfoldable pub testsOf : Limits → Order → Counts → Tables → Tested
+testsOf lim o n t =
+    cond (not (areFull lim t)) (Failed ShortTable)
+    (cond (not (inRange o)) (Failed OutOfRange)
+    (cond (not (agree lim n t)) (Failed Disagreement) Passed))
