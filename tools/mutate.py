@@ -110,8 +110,8 @@ EDITS = {
     ],
     "Outcomes": [
         ('tables = cleared lim t }', 'tables = t }'),
-        ('(cond (ltb (lim .list) (length ts)) (flipsRefused n t LongList)\n    (cond (not (agree lim n t)) (flipsRefused n t Disagreement)', '(cond (not (agree lim n t)) (flipsRefused n t Disagreement)\n    (cond (ltb (lim .list) (length ts)) (flipsRefused n t LongList)'),
-        ('(cond (not (inRange o)) (walkRefused n t OutOfRange)\n    (cond (not (agree lim n t)) (walkRefused n t Disagreement)', '(cond (not (agree lim n t)) (walkRefused n t Disagreement)\n    (cond (not (inRange o)) (walkRefused n t OutOfRange)'),
+        ('(cond (ltb (lim .list) (length ts)) (flipsRefused n t ListTooLong)\n    (cond (not (agree lim n t)) (flipsRefused n t TablesDisagree)', '(cond (not (agree lim n t)) (flipsRefused n t TablesDisagree)\n    (cond (ltb (lim .list) (length ts)) (flipsRefused n t ListTooLong)'),
+        ('(cond (not (inRange o)) (walkRefused n t OutOfRange)\n    (cond (not (agree lim n t)) (walkRefused n t TablesDisagree)', '(cond (not (agree lim n t)) (walkRefused n t TablesDisagree)\n    (cond (not (inRange o)) (walkRefused n t OutOfRange)'),
         ('ltb (lim .list) (length ts)', 'ltb (length ts) (lim .list)'),
         ('(λ v. ltb v (n .terms))', '(λ v. ltb v (lim .terms))'),
     ],

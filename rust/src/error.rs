@@ -8,7 +8,7 @@ use std::fmt;
 /// use ngiyarumba::{Reason, Tables};
 ///
 /// let error = Tables::new().read("a b\nbillabong\n").unwrap_err();
-/// assert_eq!(error.reason(), Reason::LongName);
+/// assert_eq!(error.reason(), Reason::NinthByte);
 /// assert_eq!(error.line(), Some(2));
 /// assert_eq!(error.to_string(), "line 2: a name has a ninth byte");
 /// ```
@@ -23,21 +23,21 @@ pub struct Error {
 pub enum Reason {
     /// 1: a lent table, or the buffer of a run, is shorter than its full size. Here none is, so no call
     /// gives it.
-    ShortTable = 1,
+    TableTooShort = 1,
     /// 2: the text is longer than 65,536 bytes.
-    LongText = 2,
+    TextTooLong = 2,
     /// 3: the text is not empty and does not end with byte 10.
-    OpenEnd = 3,
+    TextCut = 3,
     /// 4: a byte may not stand there.
-    BadByte = 4,
+    ByteNotAllowed = 4,
     /// 5: a name has a ninth byte.
-    LongName = 5,
+    NinthByte = 5,
     /// 6: a new term is met when 2,048 are known.
-    TermRoom = 6,
+    TooManyTerms = 6,
     /// 7: a literal is met when 16,384 are held.
-    LiteralRoom = 7,
+    TooManyLiterals = 7,
     /// 8: a line is kept when 8,192 clauses are held.
-    ClauseRoom = 8,
+    TooManyClauses = 8,
     /// 9: no line was kept.
     NoClause = 9,
     /// 10: the order sheet has the wrong form. [`run`](crate::run) alone reads one, and prints it.
@@ -46,30 +46,30 @@ pub enum Reason {
     OutOfRange = 11,
     /// 12: no clause stands, or the tables do not agree. Here they do, so it means that no text was
     /// read, or that the last one was refused.
-    Disagreement = 12,
+    TablesDisagree = 12,
     /// 13: a flip list names a term that is not below the term count.
     UnknownTerm = 13,
     /// 14: a flip list is longer than 65,536.
-    LongList = 14,
+    ListTooLong = 14,
 }
 
 impl Reason {
     /// All fourteen, in the order of their numbers.
     pub const ALL: [Reason; 14] = [
-        Reason::ShortTable,
-        Reason::LongText,
-        Reason::OpenEnd,
-        Reason::BadByte,
-        Reason::LongName,
-        Reason::TermRoom,
-        Reason::LiteralRoom,
-        Reason::ClauseRoom,
+        Reason::TableTooShort,
+        Reason::TextTooLong,
+        Reason::TextCut,
+        Reason::ByteNotAllowed,
+        Reason::NinthByte,
+        Reason::TooManyTerms,
+        Reason::TooManyLiterals,
+        Reason::TooManyClauses,
         Reason::NoClause,
         Reason::SheetForm,
         Reason::OutOfRange,
-        Reason::Disagreement,
+        Reason::TablesDisagree,
         Reason::UnknownTerm,
-        Reason::LongList,
+        Reason::ListTooLong,
     ];
 
     /// The number, from 1 to 14, as the program prints it.
@@ -84,20 +84,20 @@ impl Reason {
     /// ```
     pub fn words(self) -> &'static str {
         match self {
-            Reason::ShortTable => "a lent table or buffer is shorter than its full size",
-            Reason::LongText => "the text is longer than 65,536 bytes",
-            Reason::OpenEnd => "the text is not empty and does not end with byte 10",
-            Reason::BadByte => "a byte may not stand there",
-            Reason::LongName => "a name has a ninth byte",
-            Reason::TermRoom => "a new term is met when 2,048 are known",
-            Reason::LiteralRoom => "a literal is met when 16,384 are held",
-            Reason::ClauseRoom => "a line is kept when 8,192 clauses are held",
+            Reason::TableTooShort => "a lent table or buffer is shorter than its full size",
+            Reason::TextTooLong => "the text is longer than 65,536 bytes",
+            Reason::TextCut => "the text is not empty and does not end with byte 10",
+            Reason::ByteNotAllowed => "a byte may not stand there",
+            Reason::NinthByte => "a name has a ninth byte",
+            Reason::TooManyTerms => "a new term is met when 2,048 are known",
+            Reason::TooManyLiterals => "a literal is met when 16,384 are held",
+            Reason::TooManyClauses => "a line is kept when 8,192 clauses are held",
             Reason::NoClause => "no line was kept",
             Reason::SheetForm => "the order sheet has the wrong form",
             Reason::OutOfRange => "a number is outside its range",
-            Reason::Disagreement => "no clause stands, or the tables do not agree",
+            Reason::TablesDisagree => "no clause stands, or the tables do not agree",
             Reason::UnknownTerm => "a flip list names a term that is not below the term count",
-            Reason::LongList => "a flip list is longer than 65,536",
+            Reason::ListTooLong => "a flip list is longer than 65,536",
         }
     }
 }

@@ -54,7 +54,7 @@ impl Tables {
     /// # use ngiyarumba::{Reason, Tables};
     /// let mut tables = Tables::new();
     /// assert_eq!(tables.read("~ a line that begins so is a comment\na ~b\n")?.clauses, 1);
-    /// assert_eq!(tables.read("a ~b").unwrap_err().reason(), Reason::OpenEnd);
+    /// assert_eq!(tables.read("a ~b").unwrap_err().reason(), Reason::TextCut);
     /// assert_eq!(tables.counts().clauses, 0);
     /// # Ok::<(), ngiyarumba::Error>(())
     /// ```

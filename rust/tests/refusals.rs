@@ -28,25 +28,25 @@ fn reason_of<T: Debug>(answer: Result<T, Error>) -> Reason {
 
 #[test]
 fn reason_2_a_long_text() {
-    assert_refused(&"~".repeat(65_537), Reason::LongText, None);
+    assert_refused(&"~".repeat(65_537), Reason::TextTooLong, None);
     let longest = format!("a{}\n", " ".repeat(65_534));
     assert_eq!(read(&longest).counts().clauses, 1);
 }
 
 #[test]
 fn reason_3_an_open_end() {
-    assert_refused("a b\n~a b", Reason::OpenEnd, None);
+    assert_refused("a b\n~a b", Reason::TextCut, None);
 }
 
 #[test]
 fn reason_4_a_bad_byte() {
-    assert_refused("a\n\na\tb\n", Reason::BadByte, Some(3));
-    assert_refused("a~b\n", Reason::BadByte, Some(1));
+    assert_refused("a\n\na\tb\n", Reason::ByteNotAllowed, Some(3));
+    assert_refused("a~b\n", Reason::ByteNotAllowed, Some(1));
 }
 
 #[test]
 fn reason_5_a_long_name() {
-    assert_refused("~ note\ncreek billabong\n", Reason::LongName, Some(2));
+    assert_refused("~ note\ncreek billabong\n", Reason::NinthByte, Some(2));
 }
 
 #[test]
@@ -55,21 +55,21 @@ fn reason_6_no_room_for_a_term() {
     let most: String = names(2_048);
     assert_eq!(read(&most).counts().terms, 2_048);
     let more: String = names(2_049);
-    assert_refused(&more, Reason::TermRoom, Some(2_049));
+    assert_refused(&more, Reason::TooManyTerms, Some(2_049));
 }
 
 #[test]
 fn reason_7_no_room_for_a_literal() {
     let most = "a b c\n".repeat(5_461) + "a\n";
     assert_eq!(read(&most).counts().literals, 16_384);
-    assert_refused(&(most + "~a\n"), Reason::LiteralRoom, Some(5_463));
+    assert_refused(&(most + "~a\n"), Reason::TooManyLiterals, Some(5_463));
 }
 
 #[test]
 fn reason_8_no_room_for_a_clause() {
     let most = "a\n".repeat(8_192);
     assert_eq!(read(&most).counts().clauses, 8_192);
-    assert_refused(&(most + "a\n"), Reason::ClauseRoom, Some(8_193));
+    assert_refused(&(most + "a\n"), Reason::TooManyClauses, Some(8_193));
 }
 
 #[test]
@@ -126,10 +126,10 @@ fn reason_11_draws_out_of_range() {
 #[test]
 fn reason_12_no_clause_stands() {
     let mut tables = Tables::new();
-    assert_eq!(reason_of(tables.walk(ORDER)), Reason::Disagreement);
-    assert_eq!(reason_of(tables.flip(&[])), Reason::Disagreement);
+    assert_eq!(reason_of(tables.walk(ORDER)), Reason::TablesDisagree);
+    assert_eq!(reason_of(tables.flip(&[])), Reason::TablesDisagree);
     tables.read("a\tb\n").unwrap_err();
-    assert_eq!(reason_of(tables.walk(ORDER)), Reason::Disagreement);
+    assert_eq!(reason_of(tables.walk(ORDER)), Reason::TablesDisagree);
     assert_eq!(tables.answer(), None);
 }
 
@@ -145,7 +145,7 @@ fn reason_13_an_unknown_term() {
 fn reason_14_a_long_list() {
     let mut tables = read(TEXT);
     let before = tables.clone();
-    assert_eq!(reason_of(tables.flip(&[0; 65_537])), Reason::LongList);
+    assert_eq!(reason_of(tables.flip(&[0; 65_537])), Reason::ListTooLong);
     assert_eq!(tables, before);
     assert!(tables.flip(&[0; 65_536]).is_ok());
 }

@@ -11,7 +11,7 @@ use Rattle.written.specs.Lists.{all}
 use Rattle.written.specs.Limits.{Limits}
 use Rattle.written.specs.declared.Flipped.the-variants as F
 use Rattle.written.specs.declared.Reason.{Reason}
-use Rattle.written.specs.declared.Reason.the-variants.{ShortTable, Disagreement, UnknownTerm, LongList}
+use Rattle.written.specs.declared.Reason.the-variants.{TableTooShort, TablesDisagree, UnknownTerm, ListTooLong}
 use Rattle.written.specs.Tables.{Tables, lent, areFull, holding}
 use Rattle.written.specs.Agreement.{stateIn, agree}
 use Rattle.written.specs.Flips.{flipped}
@@ -30,7 +30,7 @@ use Rattle.flipping_lists.specs.Tests.{testsOf}
 
 -- a list that is too long, where a was answered to whether the tables are full
 pub tests-long : (lim : Limits) (ts : List ℕ) (n : Counts) (t : Tables) {a : Bool} → a ≡ areFull lim t → not a ≡ false → lim .list < length ts
-    → Failed LongList ≡ testsOf lim ts n t
+    → Failed ListTooLong ≡ testsOf lim ts n t
 unfolding testsOf
 tests-long lim ts n t asked full long = rw (said-yes full asked, lt-ltb (lim .list) (length ts) long) refl
 
@@ -44,13 +44,13 @@ module _ (lim : Limits) (ts : List ℕ) (n : Counts) (t : Tables) where
   unfolding flipsOf testsOf
   tests-say =
       by-cases (areFull lim t)
-      (λ a. by-cases (ltb (lim .list) (length ts)) (λ b. let q : Says (Failed LongList) = rw (a, b) refl in rw (a, b) q)
+      (λ a. by-cases (ltb (lim .list) (length ts)) (λ b. let q : Says (Failed ListTooLong) = rw (a, b) refl in rw (a, b) q)
       (λ b. by-cases (agree lim n t)
       (λ d. by-cases (all (λ v. ltb v (n .terms)) ts)
       (λ e. rw (a, b, d, e) (record { full = a; short = ltb-false (lim .list) (length ts) b; agrees = d; known = e }))
       (λ e. let q : Says (Failed UnknownTerm) = rw (a, b, d, e) refl in rw (a, b, d, e) q))
-      (λ d. let q : Says (Failed Disagreement) = rw (a, b, d) refl in rw (a, b, d) q)))
-      (λ a. let q : Says (Failed ShortTable) = rw a refl in rw a q)
+      (λ d. let q : Says (Failed TablesDisagree) = rw (a, b, d) refl in rw (a, b, d) q)))
+      (λ a. let q : Says (Failed TableTooShort) = rw a refl in rw a q)
 
   -- where one fails, nothing changes
   module _ {e : Reason} (h : testsOf lim ts n t ≡ Failed e) where

@@ -5,7 +5,7 @@ use mathlib.Core.List.{List}
 use lib.ListN.{length}
 use lib.Dec.{ltb}
 use Rattle.written.specs.declared.Counts.{Counts}
-use Rattle.written.specs.declared.Reason.the-variants.{ShortTable, Disagreement, UnknownTerm, LongList}
+use Rattle.written.specs.declared.Reason.the-variants.{TableTooShort, TablesDisagree, UnknownTerm, ListTooLong}
 use Rattle.written.specs.Lists.{all}
 use Rattle.written.specs.Limits.{Limits}
 use Rattle.written.specs.Tables.{Tables, areFull}
@@ -16,7 +16,7 @@ use Rattle.flipping_lists.specs.declared.Tested.the-variants.{Passed, Fa
 -- what they come to
 unfoldable pub testsOf : Limits → List ℕ → Counts → Tables → Tested
 testsOf lim ts n t =
-    cond (not (areFull lim t)) (Failed ShortTable)
-    (cond (ltb (lim .list) (length ts)) (Failed LongList)
-    (cond (not (agree lim n t)) (Failed Disagreement)
+    cond (not (areFull lim t)) (Failed TableTooShort)
+    (cond (ltb (lim .list) (length ts)) (Failed ListTooLong)
+    (cond (not (agree lim n t)) (Failed TablesDisagree)
     (cond (not (all (λ v. ltb v (n .terms)) ts)) (Failed UnknownTerm) Passed)))

@@ -64,10 +64,10 @@ fn verdict(
         uncovered,
         places,
     ) {
-        return Tested::Failed(Reason::ShortTable);
+        return Tested::Failed(Reason::TableTooShort);
     }
     if list.len() > 65536 {
-        return Tested::Failed(Reason::LongList);
+        return Tested::Failed(Reason::ListTooLong);
     }
     if !agreeing::agrees(
         n,
@@ -82,7 +82,7 @@ fn verdict(
         uncovered,
         places,
     ) {
-        return Tested::Failed(Reason::Disagreement);
+        return Tested::Failed(Reason::TablesDisagree);
     }
     if !known(list, n.terms) {
         return Tested::Failed(Reason::UnknownTerm);

@@ -16,7 +16,7 @@ use Rattle.written.specs.declared.Ordered.{Ordered}
 use Rattle.written.specs.declared.Ordered.the-variants as O
 use Rattle.written.specs.declared.Fault.{Fault}
 use Rattle.written.specs.declared.Reason.{Reason}
-use Rattle.written.specs.declared.Reason.the-variants.{ShortTable, LongText, OpenEnd, BadByte, LongName, TermRoom, LiteralRoom, ClauseRoom, NoClause, SheetForm, OutOfRange, Disagreement, UnknownTerm, LongList}
+use Rattle.written.specs.declared.Reason.the-variants.{TableTooShort, TextTooLong, TextCut, ByteNotAllowed, NinthByte, TooManyTerms, TooManyLiterals, TooManyClauses, NoClause, SheetForm, OutOfRange, TablesDisagree, UnknownTerm, ListTooLong}
 use Rattle.written.specs.Lists.{all}
 use Rattle.written.specs.Limits.{Limits}
 use Rattle.written.specs.Reasons.{numberOf, fault}
@@ -38,7 +38,7 @@ use Rattle.laws.proofs.ReadCalls.{reasonIn, text-2, text-to, refused-fr
 -- ---- the tests in their order
 
 module _ (lim : Limits) (input : List ℕ) where
-  pub long-course : lim .text < length input → courseOf lim input ≡ unread (fault LongText)
+  pub long-course : lim .text < length input → courseOf lim input ≡ unread (fault TextTooLong)
   unfolding courseOf
   long-course l = rw (lt-ltb (lim .text) (length input) l) refl
 
@@ -59,7 +59,7 @@ module _ (lim : Limits) (input : List ℕ) where
   walk-course s f b q = begun-course s b ∙ ap (afterReading (s .order)) q
 
   -- what holds of each course that can be gone
-  module _ (P : Course → Type 0) (long : lim .text < length input → P (unread (fault LongText)))
+  module _ (P : Course → Type 0) (long : lim .text < length input → P (unread (fault TextTooLong)))
       (sheet : (e : Fault) → length input ≤ lim .text → sheetOf input ≡ O.Refused e → P (unbegun (O.Refused e)))
       (text : (s : Sheet) (e : Fault) → Begun lim input s → readText lim (textAfter s input) ≡ refused e → P (unread e))
       (walk : (s : Sheet) (f : File) → Begun lim input s → readText lim (textAfter s input) ≡ accepted f → P (walked (walkOver (s .order) f))) where
@@ -115,23 +115,23 @@ numbers-end m n x y e =
 
 -- each reason by its number
 abbrev reasons : List Reason
-reasons = ShortTable ∷ ShortTable ∷ LongText ∷ OpenEnd ∷ BadByte ∷ LongName ∷ TermRoom ∷ LiteralRoom ∷ ClauseRoom ∷ NoClause ∷ SheetForm ∷ OutOfRange ∷ Disagreement ∷ UnknownTerm ∷ LongList ∷ []
+reasons = TableTooShort ∷ TableTooShort ∷ TextTooLong ∷ TextCut ∷ ByteNotAllowed ∷ NinthByte ∷ TooManyTerms ∷ TooManyLiterals ∷ TooManyClauses ∷ NoClause ∷ SheetForm ∷ OutOfRange ∷ TablesDisagree ∷ UnknownTerm ∷ ListTooLong ∷ []
 
-reason-at : (r : Reason) → getD reasons (numberOf r) ShortTable ≡ r
-reason-at ShortTable = refl
-reason-at LongText = refl
-reason-at OpenEnd = refl
-reason-at BadByte = refl
-reason-at LongName = refl
-reason-at TermRoom = refl
-reason-at LiteralRoom = refl
-reason-at ClauseRoom = refl
+reason-at : (r : Reason) → getD reasons (numberOf r) TableTooShort ≡ r
+reason-at TableTooShort = refl
+reason-at TextTooLong = refl
+reason-at TextCut = refl
+reason-at ByteNotAllowed = refl
+reason-at NinthByte = refl
+reason-at TooManyTerms = refl
+reason-at TooManyLiterals = refl
+reason-at TooManyClauses = refl
 reason-at NoClause = refl
 reason-at SheetForm = refl
 reason-at OutOfRange = refl
-reason-at Disagreement = refl
+reason-at TablesDisagree = refl
 reason-at UnknownTerm = refl
-reason-at LongList = refl
+reason-at ListTooLong = refl
 
 pub refusal-one : (d e : Fault) → refusal d ≡ refusal e → d ≡ e
 unfolding refusedBy
@@ -141,7 +141,7 @@ refusal-one d e h =
     (sym (append-snoc (decimal (numberOf (d .reason))) 10 (after d)) ∙ ap (drop 22) h ∙ append-snoc (decimal (numberOf (e .reason))) 10 (after e)) in
     let n = numbers-end (d .line) (e .line) [] [] (ap (drop 5) (k .1)) in
     ap₂ (λ (r : Reason) (m : ℕ). record { reason = r; line = m })
-    (sym (reason-at (d .reason)) ∙ ap (λ (m : ℕ). getD reasons m ShortTable) (k .0) ∙ reason-at (e .reason)) (n .0)
+    (sym (reason-at (d .reason)) ∙ ap (λ (m : ℕ). getD reasons m TableTooShort) (k .0) ∙ reason-at (e .reason)) (n .0)
 
 -- ---- the result line
 
@@ -291,7 +291,7 @@ module _ (lim : Limits) (input : List ℕ) where
   run-given =
       record {
         exactly = λ e. (prints-refuses e, refuses-prints e);
-        reason-2 = (λ p. was-long (fault LongText) (prints-refuses (fault LongText) p) (omega arith), λ l. refuses-prints (fault LongText) (too-long l));
+        reason-2 = (λ p. was-long (fault TextTooLong) (prints-refuses (fault TextTooLong) p) (omega arith), λ l. refuses-prints (fault TextTooLong) (too-long l));
         of-text = λ e from up. (λ p. was-text e (prints-refuses e p) from up, λ h. refuses-prints e (bad-text (h .0) e (h .1) (h .2)));
         of-sheet = λ e late. (λ p. was-sheet e (prints-refuses e p) late, λ h. refuses-prints e (bad-sheet e (h .0) (h .1)));
         no-other = λ e p. refuses-reasons e (prints-refuses e p);

@@ -10,7 +10,7 @@ use Rattle.scan.specs.declared.Cursor.{Cursor}
 use Rattle.scan.specs.Scan.{scan, start, openEnd, passed, lineOf, takes}
 use Rattle.scan.proofs.Advance.{scan-sound, pass-forward, pass-within}
 use Rattle.written.specs.declared.Reason.{Reason}
-use Rattle.written.specs.declared.Reason.the-variants.{LongText, OpenEnd, NoClause}
+use Rattle.written.specs.declared.Reason.the-variants.{TextTooLong, TextCut, NoClause}
 use Rattle.written.specs.declared.Fault.{Fault}
 use Rattle.written.specs.Lists.{times}
 use Rattle.written.specs.Limits.{Limits}
@@ -83,15 +83,15 @@ turn-told lim t closed c d h =
       take = λ _ l _ _. on;
       keep = λ _ _ _. on;
       refuse = λ p r e. a-line t (lineOf (scan t c .token)) r e (omega (arith, at .same)) (omega (arith, at .same, lines-all t closed (c .at) (at .inside p)));
-      cut = no-line t OpenEnd refl;
+      cut = no-line t TextCut refl;
       finish = end-told t (d .names) (d .clauses);
     }
 
 reading-told : (lim : Limits) (t : List ℕ) → Told t (readText lim t)
 unfolding readText
 reading-told lim t =
-    by-test (Told t) (ltb (lim .text) (length t)) (λ _. no-line t LongText refl) (λ _.
-    by-test (Told t) (openEnd t) (λ _. no-line t OpenEnd refl) (λ closed.
+    by-test (Told t) (ltb (lim .text) (length t)) (λ _. no-line t TextTooLong refl) (λ _.
+    by-test (Told t) (openEnd t) (λ _. no-line t TextCut refl) (λ closed.
     read-by (λ c d. Stands t c) (Told t) lim t (λ c d _. end-told t (d .names) (d .clauses)) (turn-told lim t closed) (suc (length t)) start nothing (start-stands t)))
 
 -- a refused reading names one of the text's lines for reasons 4 to 8, and else 0

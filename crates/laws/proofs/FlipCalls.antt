@@ -12,7 +12,7 @@ use lib.Dec.{ltb}
 use borrow.Author.Tests.{le-ltb, lt-ltb}
 use Rattle.written.specs.declared.Counts.{Counts}
 use Rattle.written.specs.declared.Reason.{Reason}
-use Rattle.written.specs.declared.Reason.the-variants.{ShortTable}
+use Rattle.written.specs.declared.Reason.the-variants.{TableTooShort}
 use Rattle.written.specs.declared.Refusal.{Refusal}
 use Rattle.written.specs.declared.Flipped.{Flipped}
 use Rattle.written.specs.declared.Flipped.the-variants as F
@@ -128,7 +128,7 @@ countsIn (F.Applied m) = m
 countsIn (F.Refused e) = e .counts
 
 abbrev refusalIn : Flipped → Refusal
-refusalIn (F.Applied m) = record { reason = ShortTable; counts = m }
+refusalIn (F.Applied m) = record { reason = TableTooShort; counts = m }
 refusalIn (F.Refused e) = e
 
 module _ (lim : Limits) (ts : List ℕ) (n : Counts) (t : Tables) where

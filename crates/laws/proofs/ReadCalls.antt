@@ -12,7 +12,7 @@ use borrow.Author.Tests.{le-ltb, lt-ltb, ltb-true, eqb-false, ne-eqb, not-true}
 use Rattle.scan.specs.Scan.{scan, openEnd}
 use Rattle.scan.proofs.Laws.{getD-any}
 use Rattle.written.specs.declared.Counts.{Counts}
-use Rattle.written.specs.declared.Reason.the-variants.{ShortTable, NoClause}
+use Rattle.written.specs.declared.Reason.the-variants.{TableTooShort, NoClause}
 use Rattle.written.specs.declared.Fault.{Fault}
 use Rattle.written.specs.declared.Read.{Read}
 use Rattle.written.specs.declared.Read.the-variants as R
@@ -176,7 +176,7 @@ leaves-reason lim t (refused e) = refl
 
 module _ (lim : Limits) (text : List ℕ) (t : Tables) where
   -- for short tables the answer is reason 1, whatever the text
-  pub short-reading : areFull lim t ≡ false → readingOf lim text t ≡ unchanged t (R.Refused (fault ShortTable))
+  pub short-reading : areFull lim t ≡ false → readingOf lim text t ≡ unchanged t (R.Refused (fault TableTooShort))
   unfolding readingOf
   short-reading h = rw h refl
 
@@ -189,7 +189,7 @@ module _ (lim : Limits) (text : List ℕ) (t : Tables) where
       → (areFull lim t ≡ true → (e : Fault) → readText lim text ≡ refused e → A) → A
   by-outcome short told faulty = by-cases (areFull lim t) (λ full. by-reading (readText lim text) (readText lim text) refl (told full) (faulty full)) short
 
-  short-answer : areFull lim t ≡ false → readingOf lim text t .answer ≡ R.Refused (fault ShortTable)
+  short-answer : areFull lim t ≡ false → readingOf lim text t .answer ≡ R.Refused (fault TableTooShort)
   short-answer h = ap (λ (l : Leaves Read). l .answer) (short-reading h)
 
   pub accepted-answer : areFull lim t ≡ true → (f : File) → readText lim text ≡ accepted f → readingOf lim text t .answer ≡ R.Accepted (countsOf (asRead f))
@@ -276,7 +276,7 @@ module _ (lim : Limits) (text : List ℕ) (t : Tables) where
       (λ d r. r ∙ ap refused (ap faultIn (sym (refused-answer lim text t full d r) ∙ q)))
 
   -- and reason 1 where one is short
-  short-fault : areFull lim t ≡ false → (e : Fault) → readingOf lim text t .answer ≡ R.Refused e → e ≡ fault ShortTable
+  short-fault : areFull lim t ≡ false → (e : Fault) → readingOf lim text t .answer ≡ R.Refused e → e ≡ fault TableTooShort
   short-fault short e q = ap faultIn (sym q ∙ short-answer lim text t short)
 
   -- refused, it leaves all unchanged, by reason 1, or tables 0
@@ -298,7 +298,7 @@ module _ (lim : Limits) (text : List ℕ) (t : Tables) where
   -- every text is accepted or refused, and none is both
   pub reading-either : ((n : Counts) × (readingOf lim text t .answer ≡ R.Accepted n)) ⊎ ((e : Fault) × (readingOf lim text t .answer ≡ R.Refused e))
   reading-either =
-      by-outcome lim text t (λ s. inr (fault ShortTable, short-answer lim text t s))
+      by-outcome lim text t (λ s. inr (fault TableTooShort, short-answer lim text t s))
       (λ full f e. inl (countsOf (asRead f), accepted-answer lim text t full f e)) (λ full e r. inr (e, refused-answer lim text t full e r))
 
   pub reading-not-both : (n : Counts) (e : Fault) → readingOf lim text t .answer ≡ R.Accepted n → readingOf lim text t .answer ≡ R.Refused e → ⊥
@@ -314,10 +314,10 @@ module _ (lim : Limits) (text : List ℕ) (t : Tables) where
   -- refused exactly if a table is short, or the tables are full and the text is at fault
   pub refused-exactly : (e : Fault)
       → (readingOf lim text t .answer ≡ R.Refused e)
-      ↔ (((areFull lim t ≡ false) × (e ≡ fault ShortTable)) ⊎ ((areFull lim t ≡ true) × (readText lim text ≡ refused e)))
+      ↔ (((areFull lim t ≡ false) × (e ≡ fault TableTooShort)) ⊎ ((areFull lim t ≡ true) × (readText lim text ≡ refused e)))
   refused-exactly e = (λ q. by-cases (areFull lim t) (λ full. inr (full, text-fault full e q)) (λ short. inl (short, short-fault short e q)), back)
     where
-      back : ((areFull lim t ≡ false) × (e ≡ fault ShortTable)) ⊎ ((areFull lim t ≡ true) × (readText lim text ≡ refused e)) → readingOf lim text t .answer ≡ R.Refused e
+      back : ((areFull lim t ≡ false) × (e ≡ fault TableTooShort)) ⊎ ((areFull lim t ≡ true) × (readText lim text ≡ refused e)) → readingOf lim text t .answer ≡ R.Refused e
       back (inl h) = short-answer lim text t (h .0) ∙ ap R.Refused (sym (h .1))
       back (inr h) = refused-answer lim text t (h .0) e (h .1)
 
@@ -369,7 +369,7 @@ module _ (lim : Limits) (text : List ℕ) (t : Tables) where
     λ q. by-outcome lim text t (λ s. absurd (omega (arith, short-reason s)))
         (λ full f e. let a = accepted-answer lim text t full f e in given a ∙ reading-accepted (countsOf (asRead f)) a .3 .stands .agrees)
         (λ full e r. absurd (omega (arith, full-reason full, ap reasonIn r, refused-from lim text e r))),
-    λ h. by-outcome lim text t (λ s. absurd (disagrees (fault ShortTable) h (short-answer lim text t s))) (λ full f e. full-reason full ∙ ap reasonIn e)
+    λ h. by-outcome lim text t (λ s. absurd (disagrees (fault TableTooShort) h (short-answer lim text t s))) (λ full f e. full-reason full ∙ ap reasonIn e)
         (λ full e r. absurd (disagrees e h (refused-answer lim text t full e r))),
   )
     where

@@ -14,7 +14,7 @@ use Rattle.scan.specs.declared.Token.{Token}
 use Rattle.scan.specs.declared.Token.the-variants.{Literal, True, Line, End, Cut, Bad, Long}
 use Rattle.scan.specs.Scan.{scan, start, openEnd, reasonOf}
 use Rattle.scan.proofs.Closed.{no-cut}
-use Rattle.written.specs.declared.Reason.the-variants.{BadByte, LongName, TermRoom, LiteralRoom, ClauseRoom, NoClause}
+use Rattle.written.specs.declared.Reason.the-variants.{ByteNotAllowed, NinthByte, TooManyTerms, TooManyLiterals, TooManyClauses, NoClause}
 use Rattle.written.specs.declared.Fault.{Fault}
 use Rattle.written.specs.Lists.{has}
 use Rattle.written.specs.Limits.{Limits}
@@ -59,11 +59,11 @@ module _ (lim : Limits) (d : Draft) (e : Fault) where
       by-test (Stopping lim d (Literal l) e) (has (numbered d l (not (l .negated))) (d .line)) (λ _. onward refl) (λ one-way.
       let fresh : Fresh d l = record { once = once; one-way = one-way } in
       by-test (Stopping lim d (Literal l) e) (not (has (l .name) (d .names)) && leb (lim .terms) (length (d .names)))
-      (λ full. by-fault (faultAt (l .line) TermRoom)
+      (λ full. by-fault (faultAt (l .line) TooManyTerms)
       (term-room l fresh (not-true _ (both-first _ _ full)) (leb-true (lim .terms) (length (d .names)) (both-second (not (has (l .name) (d .names))) _ full))))
       (λ room.
       by-test (Stopping lim d (Literal l) e) (leb (lim .literals) (held d))
-      (λ full. by-fault (faultAt (l .line) LiteralRoom) (literal-room l fresh (new-room l room) (leb-true (lim .literals) (held d) full)))
+      (λ full. by-fault (faultAt (l .line) TooManyLiterals) (literal-room l fresh (new-room l room) (leb-true (lim .literals) (held d) full)))
       (λ _. onward refl))))
     where
       new-room : (l : Lit) → (not (has (l .name) (d .names)) && leb (lim .terms) (length (d .names))) ≡ false
@@ -75,7 +75,7 @@ module _ (lim : Limits) (d : Draft) (e : Fault) where
   line-stops n [] same = onward refl
   line-stops n (l ∷ ls) same =
       by-test (Stopping lim d (Line n) e) (leb (lim .clauses) (length (d .clauses)))
-      (λ full. by-fault (faultAt n ClauseRoom) (clause-room n (omega (arith, ap length same)) (leb-true (lim .clauses) (length (d .clauses)) full)))
+      (λ full. by-fault (faultAt n TooManyClauses) (clause-room n (omega (arith, ap length same)) (leb-true (lim .clauses) (length (d .clauses)) full)))
       (λ _. onward refl)
 
   end-stops : (n : ℕ) (cs : List (List ℕ)) → d .clauses ≡ cs → Stopping lim d (End n) e (ends (atTextEnd (d .names) cs))
@@ -91,10 +91,10 @@ module _ (lim : Limits) (d : Draft) (e : Fault) where
   token-stops (Line n) whole = line-stops n (d .line) refl
   token-stops (End n) whole = end-stops n (d .clauses) refl
   token-stops (Cut n) whole = absurd (whole refl)
-  token-stops (Bad n) whole = by-fault (faultAt n BadByte) (bad-byte n)
-  token-stops (Long n) whole = by-fault (faultAt n LongName) (ninth-byte n)
+  token-stops (Bad n) whole = by-fault (faultAt n ByteNotAllowed) (bad-byte n)
+  token-stops (Long n) whole = by-fault (faultAt n NinthByte) (ninth-byte n)
 
-line-full : (lim : Limits) (d : Draft) (n : ℕ) (ls : List ℕ) → 0 < length ls → lim .clauses ≤ length (d .clauses) → atLineEnd lim d n ls ≡ stops (faultAt n ClauseRoom)
+line-full : (lim : Limits) (d : Draft) (n : ℕ) (ls : List ℕ) → 0 < length ls → lim .clauses ≤ length (d .clauses) → atLineEnd lim d n ls ≡ stops (faultAt n TooManyClauses)
 unfolding atLineEnd
 line-full lim d n [] some full = absurd (omega arith)
 line-full lim d n (l ∷ ls) some full = rw (le-leb (lim .clauses) (length (d .clauses)) full) refl

@@ -15,7 +15,7 @@ use Rattle.written.specs.declared.Ordered.{Ordered}
 use Rattle.written.specs.declared.Ordered.the-variants.{Accepted, Refused}
 use Rattle.written.specs.declared.Fault.{Fault}
 use Rattle.written.specs.declared.Reason.{Reason}
-use Rattle.written.specs.declared.Reason.the-variants.{ShortTable, LongText, OpenEnd, BadByte, LongName, TermRoom, LiteralRoom, ClauseRoom, NoClause, SheetForm, OutOfRange, Disagreement, UnknownTerm, LongList}
+use Rattle.written.specs.declared.Reason.the-variants.{TableTooShort, TextTooLong, TextCut, ByteNotAllowed, NinthByte, TooManyTerms, TooManyLiterals, TooManyClauses, NoClause, SheetForm, OutOfRange, TablesDisagree, UnknownTerm, ListTooLong}
 use Rattle.written.specs.Limits.{Limits}
 use Rattle.written.specs.Reasons.{numberOf, fault}
 use Rattle.written.specs.Clauses.{File}
@@ -40,20 +40,20 @@ pub line-length : (key : String) (value : List ℕ) → length (line key value) 
 line-length key value = simp length-append (omega arith)
 
 reason-small : (r : Reason) → numberOf r < 10 ^ 2
-reason-small ShortTable = lit< tt
-reason-small LongText = lit< tt
-reason-small OpenEnd = lit< tt
-reason-small BadByte = lit< tt
-reason-small LongName = lit< tt
-reason-small TermRoom = lit< tt
-reason-small LiteralRoom = lit< tt
-reason-small ClauseRoom = lit< tt
+reason-small TableTooShort = lit< tt
+reason-small TextTooLong = lit< tt
+reason-small TextCut = lit< tt
+reason-small ByteNotAllowed = lit< tt
+reason-small NinthByte = lit< tt
+reason-small TooManyTerms = lit< tt
+reason-small TooManyLiterals = lit< tt
+reason-small TooManyClauses = lit< tt
 reason-small NoClause = lit< tt
 reason-small SheetForm = lit< tt
 reason-small OutOfRange = lit< tt
-reason-small Disagreement = lit< tt
+reason-small TablesDisagree = lit< tt
 reason-small UnknownTerm = lit< tt
-reason-small LongList = lit< tt
+reason-small ListTooLong = lit< tt
 
 -- a refusal takes 31 bytes and the digits of its line
 pub refusal-length : (e : Fault) (k : ℕ) → 0 < k → e .line < 10 ^ k → length (refusal e) ≤ 31 + k
@@ -132,5 +132,5 @@ module _ (lim : Limits) (few : lim .terms < 10 ^ 9) (short : lim .text + 1 < 10 
   pub printed-fits : (input : List ℕ) → length (printed lim input) ≤ reportSize lim
   unfolding printed courseOf said
   printed-fits input =
-      by-cases (ltb (lim .text) (length input)) (λ q. rw q (refusal-fits lim (fault LongText) short (omega arith)))
+      by-cases (ltb (lim .text) (length input)) (λ q. rw q (refusal-fits lim (fault TextTooLong) short (omega arith)))
       (λ q. rw q (sheet-fits input (ltb-false (lim .text) (length input) q) (sheetOf input) (sheet-judged input)))

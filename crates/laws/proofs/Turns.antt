@@ -13,7 +13,7 @@ use Rattle.scan.specs.declared.Token.{Token}
 use Rattle.scan.specs.declared.Token.the-variants.{Literal, True, Line, End, Cut, Bad, Long}
 use Rattle.scan.specs.Scan.{scan, takes, reasonOf, lineOf}
 use Rattle.written.specs.declared.Reason.{Reason}
-use Rattle.written.specs.declared.Reason.the-variants.{OpenEnd, BadByte, LongName, TermRoom, LiteralRoom, ClauseRoom}
+use Rattle.written.specs.declared.Reason.the-variants.{TextCut, ByteNotAllowed, NinthByte, TooManyTerms, TooManyLiterals, TooManyClauses}
 use Rattle.written.specs.Lists.{has}
 use Rattle.written.specs.Limits.{Limits}
 use Rattle.written.specs.Reasons.{numberOf, fault, faultAt}
@@ -50,7 +50,7 @@ pub record Keeps (P : Cursor → Draft → Type 0) (Q : Reading → Type 0) (lim
   pub take : takes k ≡ true → (l : Lit) → k ≡ Literal l → Room lim d l → P c (taken d l)
   pub keep : takes k ≡ true → 0 < length (d .line) → length (d .clauses) < lim .clauses → P c (kept d)
   pub refuse : inText k ≡ true → (r : Reason) → namesLine r ≡ true → Q (refused (faultAt (lineOf k) r))
-  pub cut : Q (refused (fault OpenEnd))
+  pub cut : Q (refused (fault TextCut))
   pub finish : Q (atTextEnd (d .names) (d .clauses))
 
 module _ (P : Cursor → Draft → Type 0) (Q : Reading → Type 0) (lim : Limits) (t : List ℕ) (c : Cursor) (d : Draft) where
@@ -59,15 +59,15 @@ module _ (P : Cursor → Draft → Type 0) (Q : Reading → Type 0) (lim : Limit
   literal-by l h =
       by-test (After P Q t c) (has (numbered d l (l .negated)) (d .line)) (λ _. h .skip refl) (λ once.
       by-test (After P Q t c) (has (numbered d l (not (l .negated))) (d .line)) (λ _. h .leave refl) (λ one-way.
-      by-test (After P Q t c) (not (has (l .name) (d .names)) && leb (lim .terms) (length (d .names))) (λ _. h .refuse refl TermRoom refl) (λ term-room.
-      by-test (After P Q t c) (leb (lim .literals) (held d)) (λ _. h .refuse refl LiteralRoom refl) (λ room.
+      by-test (After P Q t c) (not (has (l .name) (d .names)) && leb (lim .terms) (length (d .names))) (λ _. h .refuse refl TooManyTerms refl) (λ term-room.
+      by-test (After P Q t c) (leb (lim .literals) (held d)) (λ _. h .refuse refl TooManyLiterals refl) (λ room.
       h .take refl l refl (record { once = once; one-way = one-way; term-room = term-room; literal-room = leb-false (lim .literals) (held d) room })))))
 
   line-by : (n : ℕ) (ls : List ℕ) → d .line ≡ ls → Keeps P Q lim t c d (Line n) → After P Q t c (atLineEnd lim d n ls)
   unfolding atLineEnd
   line-by n [] e h = h .skip refl
   line-by n (l ∷ ls) e h =
-      by-test (After P Q t c) (leb (lim .clauses) (length (d .clauses))) (λ _. h .refuse refl ClauseRoom refl) (λ room.
+      by-test (After P Q t c) (leb (lim .clauses) (length (d .clauses))) (λ _. h .refuse refl TooManyClauses refl) (λ room.
       h .keep refl (omega (arith, ap length e)) (leb-false (lim .clauses) (length (d .clauses)) room))
 
   pub token-by : (k : Token) → Keeps P Q lim t c d k → After P Q t c (atToken lim d k)
@@ -77,8 +77,8 @@ module _ (P : Cursor → Draft → Type 0) (Q : Reading → Type 0) (lim : Limit
   token-by (Line n) h = line-by n (d .line) refl h
   token-by (End n) h = h .finish
   token-by (Cut n) h = h .cut
-  token-by (Bad n) h = h .refuse refl BadByte refl
-  token-by (Long n) h = h .refuse refl LongName refl
+  token-by (Bad n) h = h .refuse refl ByteNotAllowed refl
+  token-by (Long n) h = h .refuse refl NinthByte refl
 
 -- ---- the turns
 

@@ -11,7 +11,7 @@ use borrow.Author.Tests.{eqb-false}
 use Rattle.written.specs.declared.Counts.{Counts}
 use Rattle.written.specs.declared.Order.{Order}
 use Rattle.written.specs.declared.Reason.{Reason}
-use Rattle.written.specs.declared.Reason.the-variants.{ShortTable}
+use Rattle.written.specs.declared.Reason.the-variants.{TableTooShort}
 use Rattle.written.specs.declared.Refusal.{Refusal}
 use Rattle.written.specs.declared.Tour.{Tour}
 use Rattle.written.specs.declared.Walked.{Walked}
@@ -60,8 +60,8 @@ tourIn (W.GaveUp e) = e
 tourIn (W.Refused e) = record { walks = 0; flips = 0; counts = e .counts }
 
 abbrev refusalIn : Walked → Refusal
-refusalIn (W.Found e) = record { reason = ShortTable; counts = e .counts }
-refusalIn (W.GaveUp e) = record { reason = ShortTable; counts = e .counts }
+refusalIn (W.Found e) = record { reason = TableTooShort; counts = e .counts }
+refusalIn (W.GaveUp e) = record { reason = TableTooShort; counts = e .counts }
 refusalIn (W.Refused e) = e
 
 module _ (lim : Limits) (o : Order) (n : Counts) (t : Tables) where

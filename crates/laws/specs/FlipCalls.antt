@@ -9,7 +9,7 @@ use lib.ListN.{length}
 use lib.Dec.{ltb}
 use Rattle.written.specs.declared.Counts.{Counts}
 use Rattle.written.specs.declared.Reason.{Reason}
-use Rattle.written.specs.declared.Reason.the-variants.{ShortTable, LongList, Disagreement, UnknownTerm}
+use Rattle.written.specs.declared.Reason.the-variants.{TableTooShort, ListTooLong, TablesDisagree, UnknownTerm}
 use Rattle.written.specs.declared.Refusal.{Refusal}
 use Rattle.written.specs.declared.Flipped.the-variants as F
 use Rattle.written.specs.Lists.{all}
@@ -25,11 +25,11 @@ use Rattle.laws.specs.Demands.{Acceptable}
 -- one fails that is made: each is when those before it are passed
 pub data Fails (lim : Limits) (ts : List ℕ) (n : Counts) (t : Tables) : Reason → Type 0 where
   -- "a lent table is shorter than its full size"
-  short : areFull lim t ≡ false → Fails lim ts n t ShortTable
+  short : areFull lim t ≡ false → Fails lim ts n t TableTooShort
   -- "a flip list longer than 65,536"
-  long : areFull lim t ≡ true → lim .list < length ts → Fails lim ts n t LongList
+  long : areFull lim t ≡ true → lim .list < length ts → Fails lim ts n t ListTooLong
   -- "tables do not agree"
-  disagree : areFull lim t ≡ true → length ts ≤ lim .list → agree lim n t ≡ false → Fails lim ts n t Disagreement
+  disagree : areFull lim t ≡ true → length ts ≤ lim .list → agree lim n t ≡ false → Fails lim ts n t TablesDisagree
   -- "a flip list names a term not below the term count"
   unknown : areFull lim t ≡ true → length ts ≤ lim .list → agree lim n t ≡ true → all (λ v. ltb v (n .terms)) ts ≡ false → Fails lim ts n t UnknownTerm
 

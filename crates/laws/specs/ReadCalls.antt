@@ -12,7 +12,7 @@ use Rattle.scan.specs.declared.Token.{Token}
 use Rattle.scan.specs.declared.Token.the-variants.{Literal, Line, End, Bad, Long}
 use Rattle.scan.specs.Scan.{scan, start, openEnd}
 use Rattle.written.specs.declared.Counts.{Counts}
-use Rattle.written.specs.declared.Reason.the-variants.{ShortTable, BadByte, LongName, TermRoom, LiteralRoom, ClauseRoom, NoClause}
+use Rattle.written.specs.declared.Reason.the-variants.{TableTooShort, ByteNotAllowed, NinthByte, TooManyTerms, TooManyLiterals, TooManyClauses, NoClause}
 use Rattle.written.specs.declared.Fault.{Fault}
 use Rattle.written.specs.declared.Read.the-variants as R
 use Rattle.written.specs.Lists.{has, times, zeros}
@@ -42,7 +42,7 @@ pub record LeftAlone (lim : Limits) (t : Tables) (e : Fault) (u : Tables) : Type
   -- "a lent table is shorter than its full size"
   pub short : areFull lim t ≡ false
   -- "The line is that of the fault for 4 to 8 [..], else 0."
-  pub reason : e ≡ fault ShortTable
+  pub reason : e ≡ fault TableTooShort
   -- "all unchanged"
   pub left : u ≡ t
   -- "A refused reading returns four counts of 0, for reason 1 too"
@@ -91,16 +91,16 @@ pub record Fresh (d : Draft) (l : Lit) : Type 0 where
 -- a token that a reading cannot pass where it has read d: reasons 4 to 9, "given exactly when", with the line of the token
 pub data Fails (lim : Limits) (d : Draft) : Token → Fault → Type 0 where
   -- "a byte not allowed there"
-  bad-byte : (n : ℕ) → Fails lim d (Bad n) (faultAt n BadByte)
+  bad-byte : (n : ℕ) → Fails lim d (Bad n) (faultAt n ByteNotAllowed)
   -- "a name's ninth byte"
-  ninth-byte : (n : ℕ) → Fails lim d (Long n) (faultAt n LongName)
+  ninth-byte : (n : ℕ) → Fails lim d (Long n) (faultAt n NinthByte)
   -- "a new term when 2,048 are known"
-  term-room : (l : Lit) → Fresh d l → has (l .name) (d .names) ≡ false → lim .terms ≤ length (d .names) → Fails lim d (Literal l) (faultAt (l .line) TermRoom)
+  term-room : (l : Lit) → Fresh d l → has (l .name) (d .names) ≡ false → lim .terms ≤ length (d .names) → Fails lim d (Literal l) (faultAt (l .line) TooManyTerms)
   -- "a literal when 16,384 are held", its term known or given room
   literal-room : (l : Lit) → Fresh d l → (has (l .name) (d .names) ≡ false → length (d .names) < lim .terms) → lim .literals ≤ held d
-      → Fails lim d (Literal l) (faultAt (l .line) LiteralRoom)
+      → Fails lim d (Literal l) (faultAt (l .line) TooManyLiterals)
   -- "a kept line when 8,192 are held"
-  clause-room : (n : ℕ) → 0 < length (d .line) → lim .clauses ≤ length (d .clauses) → Fails lim d (Line n) (faultAt n ClauseRoom)
+  clause-room : (n : ℕ) → 0 < length (d .line) → lim .clauses ≤ length (d .clauses) → Fails lim d (Line n) (faultAt n TooManyClauses)
   -- "no clause kept"
   no-clause : (n : ℕ) → d .clauses ≡ [] → Fails lim d (End n) (fault NoClause)
 

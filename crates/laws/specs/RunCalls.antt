@@ -16,7 +16,7 @@ use Rattle.scan.specs.Text.{bytes}
 use Rattle.written.specs.declared.Sheet.{Sheet}
 use Rattle.written.specs.declared.Ordered.{Ordered}
 use Rattle.written.specs.declared.Ordered.the-variants as O
-use Rattle.written.specs.declared.Reason.the-variants.{LongText}
+use Rattle.written.specs.declared.Reason.the-variants.{TextTooLong}
 use Rattle.written.specs.declared.Fault.{Fault}
 use Rattle.written.specs.Lists.{below, has, placeOf, times, differ}
 use Rattle.written.specs.Limits.{Limits}
@@ -83,14 +83,14 @@ textAfter s input = drop (s .at) input
 -- the first test that fails
 pub data Refuses (lim : Limits) (input : List ℕ) : Fault → Type 0 where
   -- "text (or program input) over 65,536 bytes"
-  too-long : lim .text < length input → Refuses lim input (fault LongText)
+  too-long : lim .text < length input → Refuses lim input (fault TextTooLong)
   bad-sheet : (e : Fault) → length input ≤ lim .text → sheetOf input ≡ O.Refused e → Refuses lim input e
   bad-text : (s : Sheet) (e : Fault) → Begun lim input s → readText lim (textAfter s input) ≡ refused e → Refuses lim input e
 
 -- "given exactly when": the lines of a refusal are printed, and these are all that is printed
 pub record Given (lim : Limits) (input : List ℕ) : Type 0 where
   pub exactly : (e : Fault) → (printed lim input ≡ refusal e) ↔ Refuses lim input e
-  pub reason-2 : (printed lim input ≡ refusal (fault LongText)) ↔ (lim .text < length input)
+  pub reason-2 : (printed lim input ≡ refusal (fault TextTooLong)) ↔ (lim .text < length input)
   -- 3 to 9 are the text's own, as a reading gives them
   pub of-text : (e : Fault) → 3 ≤ numberOf (e .reason) → numberOf (e .reason) ≤ 9
       → (printed lim input ≡ refusal e) ↔ ((s : Sheet) × Begun lim input s × (readText lim (textAfter s input) ≡ refused e))

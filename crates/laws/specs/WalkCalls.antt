@@ -10,7 +10,7 @@ use Rattle.words.specs.Words.{stateAfter, wordCount}
 use Rattle.written.specs.declared.Counts.{Counts}
 use Rattle.written.specs.declared.Order.{Order}
 use Rattle.written.specs.declared.Reason.{Reason}
-use Rattle.written.specs.declared.Reason.the-variants.{ShortTable, OutOfRange, Disagreement}
+use Rattle.written.specs.declared.Reason.the-variants.{TableTooShort, OutOfRange, TablesDisagree}
 use Rattle.written.specs.declared.Refusal.{Refusal}
 use Rattle.written.specs.declared.Tour.{Tour}
 use Rattle.written.specs.declared.Walked.the-variants as W
@@ -68,11 +68,11 @@ pub record Allowed (lim : Limits) (o : Order) (n : Counts) (t : Tables) : Type 0
 -- one fails that is made: each is when those before it are passed
 pub data Fails (lim : Limits) (o : Order) (n : Counts) (t : Tables) : Reason → Type 0 where
   -- "a lent table is shorter than its full size"
-  short : areFull lim t ≡ false → Fails lim o n t ShortTable
+  short : areFull lim t ≡ false → Fails lim o n t TableTooShort
   -- "a number outside its range"
   outside : areFull lim t ≡ true → inRange o ≡ false → Fails lim o n t OutOfRange
   -- "tables do not agree"
-  disagree : areFull lim t ≡ true → inRange o ≡ true → agree lim n t ≡ false → Fails lim o n t Disagreement
+  disagree : areFull lim t ≡ true → inRange o ≡ true → agree lim n t ≡ false → Fails lim o n t TablesDisagree
 
 -- the reason's number, and 0 where there is none
 abbrev pub reasonGiven : Limits → Order → Counts → Tables → ℕ

@@ -3,7 +3,7 @@ use mathlib.Core.Path.{_≡_, refl, ap, sym, _∙_, subst}
 use mathlib.Core.Bool.{Bool, true, false, not}
 use mathlib.Core.List.{List}
 use Prim.Native.Nat.{ℕ}
-use Rattle.written.specs.declared.Reason.the-variants.{ShortTable}
+use Rattle.written.specs.declared.Reason.the-variants.{TableTooShort}
 use Rattle.written.specs.declared.Read.{Read}
 use Rattle.written.specs.declared.Read.the-variants as R
 use Rattle.written.specs.Limits.{Limits}
@@ -32,7 +32,7 @@ module _ (lim : Limits) (t : Tables) (full : areFull lim t ≡ true) {u : Tables
 module _ (lim : Limits) (text : List ℕ) (t : Tables) where
   -- a table is too short: nothing changes
   module _ (h : areFull lim t ≡ false) where
-    short-answer : R.Refused (fault ShortTable) ≡ readingOf lim text t .answer
+    short-answer : R.Refused (fault TableTooShort) ≡ readingOf lim text t .answer
     short-answer = sym (ap (λ (o : Leaves Read). o .answer) (short-reading lim text t h))
 
     short-tables : t ≡ readingOf lim text t .tables
@@ -67,7 +67,7 @@ joined w o =
 
 -- a was answered to whether the tables are full
 module _ (lim : Limits) (t : Tables) {a : Bool} (asked : a ≡ areFull lim t) where
-  pub was-short : (text : List ℕ) → not a ≡ true → (R.Refused (fault ShortTable) ≡ readingOf lim text t .answer) × (t ≡ readingOf lim text t .tables)
+  pub was-short : (text : List ℕ) → not a ≡ true → (R.Refused (fault TableTooShort) ≡ readingOf lim text t .answer) × (t ≡ readingOf lim text t .tables)
   was-short text h = (short-answer lim text t (said-no h asked), short-tables lim text t (said-no h asked))
 
   -- what was cleared

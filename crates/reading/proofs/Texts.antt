@@ -7,7 +7,7 @@ use lib.Dec.{ltb}
 use borrow.Author.Tests.{ltb-false}
 use Rattle.scan.specs.Scan.{openEnd}
 use Rattle.written.specs.declared.Reason.{Reason}
-use Rattle.written.specs.declared.Reason.the-variants.{LongText, OpenEnd}
+use Rattle.written.specs.declared.Reason.the-variants.{TextTooLong, TextCut}
 use Rattle.written.specs.Limits.{Limits}
 use Rattle.written.specs.Reasons.{fault}
 use Rattle.written.specs.Reading.{refused, readText}
@@ -26,8 +26,8 @@ module _ (lim : Limits) (text : List ℕ) where
   tests-say : Says (textTests lim text)
   unfolding readText textTests
   tests-say =
-      by-cases (ltb (lim .text) (length text)) (λ a. let q : Says (Failed LongText) = rw a refl in rw a q)
-      (λ a. by-cases (openEnd text) (λ b. let q : Says (Failed OpenEnd) = rw (a, b) refl in rw (a, b) q)
+      by-cases (ltb (lim .text) (length text)) (λ a. let q : Says (Failed TextTooLong) = rw a refl in rw a q)
+      (λ a. by-cases (openEnd text) (λ b. let q : Says (Failed TextCut) = rw (a, b) refl in rw (a, b) q)
       (λ b. let q : Says Passed = (ltb-false _ _ a, rw (a, b) refl) in rw (a, b) q))
 
   pub failed-read : {e : Reason} → textTests lim text ≡ Failed e → readText lim text ≡ refused (fault e)

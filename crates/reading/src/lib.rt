@@ -100,7 +100,7 @@ pub fn read(
         places,
     ) {
         return Read::Refused(Fault {
-            reason: Reason::ShortTable,
+            reason: Reason::TableTooShort,
             line: 0,
         });
     }

@@ -6,19 +6,19 @@ use Prim.Native.Nat.{ℕ, _≤_, _<_}
 use lib.ListN.{length}
 use borrow.Author.Tests.{lt-ltb, le-ltb}
 use Rattle.scan.specs.Scan.{openEnd}
-use Rattle.written.specs.declared.Reason.the-variants.{LongText, OpenEnd}
+use Rattle.written.specs.declared.Reason.the-variants.{TextTooLong, TextCut}
 use Rattle.written.specs.Limits.{Limits}
 use Rattle.reading_end.specs.declared.Tested.the-variants.{Passed, Failed}
 use Rattle.reading_end.specs.Tests.{textTests}
 
 module _ (lim : Limits) (text : List ℕ) where
-  pub tests-long : lim .text < length text → Failed LongText ≡ textTests lim text
+  pub tests-long : lim .text < length text → Failed TextTooLong ≡ textTests lim text
   unfolding textTests
   tests-long long = rw (lt-ltb (lim .text) (length text) long) refl
 
   -- cut was answered to whether the text ends inside a line
   module _ (short : length text ≤ lim .text) {cut : Bool} (asked : cut ≡ openEnd text) where
-    pub tests-open : cut ≡ true → Failed OpenEnd ≡ textTests lim text
+    pub tests-open : cut ≡ true → Failed TextCut ≡ textTests lim text
     unfolding textTests
     tests-open h = rw (le-ltb (lim .text) (length text) short, sym asked ∙ h) refl
 

@@ -5,11 +5,11 @@ use Prim.Native.Nat.{ℕ}
 use lib.ListN.{length}
 use lib.Dec.{ltb}
 use Rattle.scan.specs.Scan.{openEnd}
-use Rattle.written.specs.declared.Reason.the-variants.{LongText, OpenEnd}
+use Rattle.written.specs.declared.Reason.the-variants.{TextTooLong, TextCut}
 use Rattle.written.specs.Limits.{Limits}
 use Rattle.reading_end.specs.declared.Tested.{Tested}
 use Rattle.reading_end.specs.declared.Tested.the-variants.{Passed, Failed}
 
 -- what they come to
 unfoldable pub textTests : Limits → List ℕ → Tested
-textTests lim t = cond (ltb (lim .text) (length t)) (Failed LongText) (cond (openEnd t) (Failed OpenEnd) Passed)
+textTests lim t = cond (ltb (lim .text) (length t)) (Failed TextTooLong) (cond (openEnd t) (Failed TextCut) Passed)

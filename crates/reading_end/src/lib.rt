@@ -25,10 +25,10 @@ pub fn verdict(text: &[u8]) -> Tested
     ensures { λ r. ⌜ r ≡ textTests narrow (now (text .entry)) ⌝ }
 {
     if text.len() > 65536 {
-        return Tested::Failed(Reason::LongText);
+        return Tested::Failed(Reason::TextTooLong);
     }
     if scan::cut_off(text) {
-        return Tested::Failed(Reason::OpenEnd);
+        return Tested::Failed(Reason::TextCut);
     }
     Tested::Passed
 }

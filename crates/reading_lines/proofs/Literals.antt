@@ -8,7 +8,7 @@ use native.Mathlib.Omega.{arith}
 use lib.ListN.{length, take, drop}
 use lib.Dec.{leb}
 use Rattle.scan.specs.declared.Lit.{Lit}
-use Rattle.written.specs.declared.Reason.the-variants.{TermRoom, LiteralRoom}
+use Rattle.written.specs.declared.Reason.the-variants.{TooManyTerms, TooManyLiterals}
 use Rattle.written.specs.Lists.{has, placeOf}
 use Rattle.written.specs.Limits.{Limits}
 use Rattle.written.specs.Clauses.{literalOf}
@@ -37,8 +37,8 @@ turnBy d l Held = goes (grown d l Held)
 turnBy d l Grown = goes (grown d l Grown)
 turnBy d l Skipped = goes d
 turnBy d l Dropped = drops (dropped d)
-turnBy d l NoTerm = stops (faultAt (l .line) TermRoom)
-turnBy d l NoRoom = stops (faultAt (l .line) LiteralRoom)
+turnBy d l NoTerm = stops (faultAt (l .line) TooManyTerms)
+turnBy d l NoRoom = stops (faultAt (l .line) TooManyLiterals)
 
 by-fate : (lim : Limits) (d : Draft) (l : Lit) → atLiteral lim d l ≡ turnBy d l (fate lim (d .names) (d .line) (held d) (l .name) (l .negated))
 unfolding atLiteral fate

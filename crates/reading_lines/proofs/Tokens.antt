@@ -9,7 +9,7 @@ use lib.Dec.{eqb, leb}
 use Rattle.scan.specs.declared.Lit.{Lit}
 use Rattle.scan.specs.declared.Token.{Token}
 use Rattle.scan.specs.declared.Token.the-variants.{Literal, True, Line, End}
-use Rattle.written.specs.declared.Reason.the-variants.{ClauseRoom, NoClause}
+use Rattle.written.specs.declared.Reason.the-variants.{TooManyClauses, NoClause}
 use Rattle.written.specs.declared.Fault.{Fault}
 use Rattle.written.specs.Limits.{Limits}
 use Rattle.written.specs.Reasons.{fault, faultAt}
@@ -33,7 +33,7 @@ module _ (lim : Limits) (p : Place) (n : ℕ) (ss : List ℕ) where
   nothing-held e = rw (eq-eqb (p .held) (p .from) e) refl
 
   module _ (some : p .held ≡ p .from → ⊥) where
-    pub no-room : lim .clauses ≤ p .clauses → {r : Next} → r ≡ N.Refused (faultAt n ClauseRoom) → lineEnd r ss ≡ afterLine lim p n ss
+    pub no-room : lim .clauses ≤ p .clauses → {r : Next} → r ≡ N.Refused (faultAt n TooManyClauses) → lineEnd r ss ≡ afterLine lim p n ss
     unfolding afterLine
     no-room full told = ap (λ (r : Next). lineEnd r ss) told ∙ rw (ne-eqb (p .held) (p .from) some, le-leb (lim .clauses) (p .clauses) full) refl
 
@@ -50,7 +50,7 @@ module _ (lim : Limits) (d : Draft) (n : ℕ) where
   line-skipped [] e = refl
   line-skipped (l ∷ ls) e = absurd (omega arith)
 
-  line-refused : (ls : List ℕ) → 0 < length ls → lim .clauses ≤ length (d .clauses) → atLineEnd lim d n ls ≡ stops (faultAt n ClauseRoom)
+  line-refused : (ls : List ℕ) → 0 < length ls → lim .clauses ≤ length (d .clauses) → atLineEnd lim d n ls ≡ stops (faultAt n TooManyClauses)
   unfolding atLineEnd
   line-refused [] e h = absurd (omega arith)
   line-refused (l ∷ ls) e h = rw (le-leb (lim .clauses) (length (d .clauses)) h) refl

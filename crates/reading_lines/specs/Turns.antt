@@ -4,7 +4,7 @@ use mathlib.Core.Bool.{cond}
 use mathlib.Core.List.{List}
 use lib.ListN.{set}
 use lib.Dec.{eqb, leb}
-use Rattle.written.specs.declared.Reason.the-variants.{TermRoom, LiteralRoom, ClauseRoom, NoClause}
+use Rattle.written.specs.declared.Reason.the-variants.{TooManyTerms, TooManyLiterals, TooManyClauses, NoClause}
 use Rattle.written.specs.Limits.{Limits}
 use Rattle.written.specs.Reasons.{fault, faultAt}
 use Rattle.reading_literal.specs.declared.Taken.{Taken}
@@ -30,8 +30,8 @@ afterLiteral Held p n = N.Goes (placeAt (p .terms) (p .clauses) (p .from) (p .he
 afterLiteral Grown p n = N.Goes (placeAt (p .terms + 1) (p .clauses) (p .from) (p .held + 1))
 afterLiteral Skipped p n = N.Goes p
 afterLiteral Dropped p n = N.Drops (givenBack p)
-afterLiteral NoTerm p n = N.Refused (faultAt n TermRoom)
-afterLiteral NoRoom p n = N.Refused (faultAt n LiteralRoom)
+afterLiteral NoTerm p n = N.Refused (faultAt n TooManyTerms)
+afterLiteral NoRoom p n = N.Refused (faultAt n TooManyLiterals)
 
 -- what a line's end leads to, and the starts that it leaves
 pub record LineEnd : Type 0 where
@@ -44,7 +44,7 @@ lineEnd r ss = record { next = r; starts = ss }
 unfoldable pub afterLine : Limits → Place → ℕ → List ℕ → LineEnd
 afterLine lim p n ss =
     cond (eqb (p .held) (p .from)) (lineEnd (N.Goes p) ss)
-    (cond (leb (lim .clauses) (p .clauses)) (lineEnd (N.Refused (faultAt n ClauseRoom)) ss)
+    (cond (leb (lim .clauses) (p .clauses)) (lineEnd (N.Refused (faultAt n TooManyClauses)) ss)
     (lineEnd (N.Goes (placeAt (p .terms) (p .clauses + 1) (p .held) (p .held))) (set ss (p .clauses + 1) (p .held))))
 
 -- the text's end

@@ -81,8 +81,8 @@ fn after_literal(t: Taken, p: Place, line: usize) -> Next
         }),
         Taken::Skipped => Next::Goes(p),
         Taken::Dropped => Next::Drops(given_back(p)),
-        Taken::NoTerm => refused(Reason::TermRoom, line),
-        Taken::NoRoom => refused(Reason::LiteralRoom, line),
+        Taken::NoTerm => refused(Reason::TooManyTerms, line),
+        Taken::NoRoom => refused(Reason::TooManyLiterals, line),
     }
 }
 
@@ -97,7 +97,7 @@ fn at_line_end(starts: &mut [u16], p: Place, line: usize) -> Next
         return Next::Goes(p);
     }
     if 8192 <= clauses {
-        return refused(Reason::ClauseRoom, line);
+        return refused(Reason::TooManyClauses, line);
     }
     let next = clauses + 1;
     starts[next] = held as u16;
@@ -151,9 +151,9 @@ fn at_token(
         Token::True(_) => Next::Drops(given_back(p)),
         Token::Line(n) => at_line_end(starts, p, n),
         Token::End(_) => at_text_end(p),
-        Token::Cut(_) => refused(Reason::OpenEnd, 0),
-        Token::Bad(n) => refused(Reason::BadByte, n),
-        Token::Long(n) => refused(Reason::LongName, n),
+        Token::Cut(_) => refused(Reason::TextCut, 0),
+        Token::Bad(n) => refused(Reason::ByteNotAllowed, n),
+        Token::Long(n) => refused(Reason::NinthByte, n),
     }
 }
 

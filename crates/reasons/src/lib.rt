@@ -7,19 +7,19 @@ pub fn number_of(reason: Reason) -> u32
     ensures { λ r. ⌜ r ≡ numberOf reason ⌝ }
 {
     match reason {
-        Reason::ShortTable => 1,
-        Reason::LongText => 2,
-        Reason::OpenEnd => 3,
-        Reason::BadByte => 4,
-        Reason::LongName => 5,
-        Reason::TermRoom => 6,
-        Reason::LiteralRoom => 7,
-        Reason::ClauseRoom => 8,
+        Reason::TableTooShort => 1,
+        Reason::TextTooLong => 2,
+        Reason::TextCut => 3,
+        Reason::ByteNotAllowed => 4,
+        Reason::NinthByte => 5,
+        Reason::TooManyTerms => 6,
+        Reason::TooManyLiterals => 7,
+        Reason::TooManyClauses => 8,
         Reason::NoClause => 9,
         Reason::SheetForm => 10,
         Reason::OutOfRange => 11,
-        Reason::Disagreement => 12,
+        Reason::TablesDisagree => 12,
         Reason::UnknownTerm => 13,
-        Reason::LongList => 14,
+        Reason::ListTooLong => 14,
     }
 }

@@ -66,7 +66,7 @@ fn refused() -> RunAnswer
 {
     RunAnswer {
         result: 0,
-        reason: reasons::number_of(Reason::ShortTable),
+        reason: reasons::number_of(Reason::TableTooShort),
         length: 0,
     }
 }

@@ -9,7 +9,7 @@ use lib.ListN.{length, drop}
 use borrow.Author.Tests.{lt-ltb, le-ltb}
 use Rattle.written.specs.declared.Ordered.{Ordered}
 use Rattle.written.specs.declared.Ordered.the-variants as O
-use Rattle.written.specs.declared.Reason.the-variants.{LongText}
+use Rattle.written.specs.declared.Reason.the-variants.{TextTooLong}
 use Rattle.written.specs.Limits.{Limits}
 use Rattle.written.specs.Orders.{inRange}
 use Rattle.written.specs.Reading.{readText}
@@ -25,7 +25,7 @@ use Rattle.running_input.specs.Outsets.{bySheet, outsetOf}
 module _ (lim : Limits) (input : List ℕ) where
   -- ---- what the code tells is the outset
 
-  pub too-long : lim .text < length input → Long (fault LongText) ≡ outsetOf lim input
+  pub too-long : lim .text < length input → Long (fault TextTooLong) ≡ outsetOf lim input
   unfolding outsetOf
   too-long long = rw (lt-ltb (lim .text) (length input) long) refl
 
@@ -46,7 +46,7 @@ module _ (lim : Limits) (input : List ℕ) where
   sheet-says short (O.Refused e) told known = (rw (short, told) refl, known .1)
   sheet-says short (O.Accepted s) told known = (rw (short, told) refl, known .0, known .1)
 
-  long-course : ltb (lim .text) (length input) ≡ true → courseOf lim input ≡ unread (fault LongText)
+  long-course : ltb (lim .text) (length input) ≡ true → courseOf lim input ≡ unread (fault TextTooLong)
   unfolding courseOf
   long-course long = rw long refl
 

@@ -6,7 +6,7 @@ use lib.ListN.{length}
 use lib.Dec.{ltb}
 use Rattle.written.specs.declared.Ordered.{Ordered}
 use Rattle.written.specs.declared.Ordered.the-variants as O
-use Rattle.written.specs.declared.Reason.the-variants.{LongText}
+use Rattle.written.specs.declared.Reason.the-variants.{TextTooLong}
 use Rattle.written.specs.Limits.{Limits}
 use Rattle.written.specs.Reasons.{fault}
 use Rattle.written.specs.Sheet.{sheetOf}
@@ -19,4 +19,4 @@ bySheet (O.Refused e) = Refused e
 bySheet (O.Accepted s) = Begins s
 
 unfoldable pub outsetOf : Limits → List ℕ → Outset
-outsetOf lim input = cond (ltb (lim .text) (length input)) (Long (fault LongText)) (bySheet (sheetOf input))
+outsetOf lim input = cond (ltb (lim .text) (length input)) (Long (fault TextTooLong)) (bySheet (sheetOf input))

@@ -20,7 +20,7 @@ pub fn set_out(input: &[u8]) -> Outset
 {
     if 65536 < input.len() {
         return Outset::Long(Fault {
-            reason: Reason::LongText,
+            reason: Reason::TextTooLong,
             line: 0,
         });
     }

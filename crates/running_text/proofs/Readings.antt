@@ -10,7 +10,7 @@ use borrow.Author.Tests.{lt-ltb}
 use Rattle.written.specs.declared.Counts.{Counts}
 use Rattle.written.specs.declared.Order.{Order}
 use Rattle.written.specs.declared.Fault.{Fault}
-use Rattle.written.specs.declared.Reason.the-variants.{LongText}
+use Rattle.written.specs.declared.Reason.the-variants.{TextTooLong}
 use Rattle.written.specs.declared.Read.{Read}
 use Rattle.written.specs.declared.Read.the-variants as R
 use Rattle.written.specs.Limits.{Limits}
@@ -39,7 +39,7 @@ abbrev lineIn : Reading → ℕ
 lineIn (accepted f) = 0
 lineIn (refused e) = e .line
 
-long-text : (lim : Limits) (text : List ℕ) → lim .text < length text → readText lim text ≡ refused (fault LongText)
+long-text : (lim : Limits) (text : List ℕ) → lim .text < length text → readText lim text ≡ refused (fault TextTooLong)
 unfolding readText
 long-text lim text l = rw (lt-ltb (lim .text) (length text) l) refl
 

@@ -2,7 +2,7 @@
 use mathlib.Core.Bool.{not, cond}
 use Rattle.written.specs.declared.Counts.{Counts}
 use Rattle.written.specs.declared.Order.{Order}
-use Rattle.written.specs.declared.Reason.the-variants.{ShortTable, OutOfRange, Disagreement}
+use Rattle.written.specs.declared.Reason.the-variants.{TableTooShort, OutOfRange, TablesDisagree}
 use Rattle.written.specs.Limits.{Limits}
 use Rattle.written.specs.Tables.{Tables, areFull}
 use Rattle.written.specs.Agreement.{agree}
@@ -13,6 +13,6 @@ use Rattle.walking_call.specs.declared.Tested.the-variants.{Passed, Fail
 -- what they come to
 unfoldable pub testsOf : Limits → Order → Counts → Tables → Tested
 testsOf lim o n t =
-    cond (not (areFull lim t)) (Failed ShortTable)
+    cond (not (areFull lim t)) (Failed TableTooShort)
     (cond (not (inRange o)) (Failed OutOfRange)
-    (cond (not (agree lim n t)) (Failed Disagreement) Passed))
+    (cond (not (agree lim n t)) (Failed TablesDisagree) Passed))

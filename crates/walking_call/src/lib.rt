@@ -66,7 +66,7 @@ fn verdict(
         uncovered,
         places,
     ) {
-        return Tested::Failed(Reason::ShortTable);
+        return Tested::Failed(Reason::TableTooShort);
     }
     if !in_range(order) {
         return Tested::Failed(Reason::OutOfRange);
@@ -84,7 +84,7 @@ fn verdict(
         uncovered,
         places,
     ) {
-        return Tested::Failed(Reason::Disagreement);
+        return Tested::Failed(Reason::TablesDisagree);
     }
     Tested::Passed
 }
