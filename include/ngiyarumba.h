@@ -37,6 +37,41 @@ extern "C" {
 #define NGI_UNCOVERED_LIST_SIZE NGI_CLAUSES            /* the clauses with no true literal */
 #define NGI_PLACES_SIZE NGI_CLAUSES                    /* by clause: its place in that list, from 0; 0 if covered */
 
+/* The ten tables at their full sizes, about 160 kB, for a caller to have in one piece. */
+typedef struct {
+    uint64_t names[NGI_NAMES_SIZE];
+    uint32_t values[NGI_VALUES_SIZE];
+    uint16_t starts[NGI_STARTS_SIZE];
+    uint16_t literals_table[NGI_LITERALS_SIZE];
+    uint16_t occurrence_starts[NGI_OCCURRENCE_STARTS_SIZE];
+    uint16_t occurrences[NGI_OCCURRENCES_SIZE];
+    uint16_t true_counts[NGI_TRUE_COUNTS_SIZE];
+    uint16_t break_counts[NGI_BREAK_COUNTS_SIZE];
+    uint16_t uncovered_list[NGI_UNCOVERED_LIST_SIZE];
+    uint16_t places[NGI_PLACES_SIZE];
+} ngi_tables;
+
+/* The tables of t, an ngi_tables and not a pointer to one, as the twenty arguments of a call: ngi_read(text, length, NGI_LEND(t)). */
+#define NGI_LEND(t)                                                                                                \
+    NGI_LEND_ONE((t).names), NGI_LEND_ONE((t).values), NGI_LEND_ONE((t).starts), NGI_LEND_ONE((t).literals_table), \
+        NGI_LEND_ONE((t).occurrence_starts), NGI_LEND_ONE((t).occurrences), NGI_LEND_ONE((t).true_counts),         \
+        NGI_LEND_ONE((t).break_counts), NGI_LEND_ONE((t).uncovered_list), NGI_LEND_ONE((t).places)
+#define NGI_LEND_ONE(table) (table), sizeof(table) / sizeof((table)[0])
+
+/* The twenty parameters that take them; fixed is const in a call that only reads names, starts, literals and both tables of occurrences. */
+#define NGI_TABLE_PARAMETERS(fixed)                                                                                   \
+    fixed uint64_t *names, size_t names_length,                             /* at least NGI_NAMES_SIZE */             \
+        uint32_t *values, size_t values_length,                             /* at least NGI_VALUES_SIZE */            \
+        fixed uint16_t *starts, size_t starts_length,                       /* at least NGI_STARTS_SIZE */            \
+        fixed uint16_t *literals_table, size_t literals_table_length,       /* at least NGI_LITERALS_SIZE */          \
+        fixed uint16_t *occurrence_starts, size_t occurrence_starts_length, /* at least NGI_OCCURRENCE_STARTS_SIZE */ \
+        fixed uint16_t *occurrences, size_t occurrences_length,             /* at least NGI_OCCURRENCES_SIZE */       \
+        uint16_t *true_counts, size_t true_counts_length,                   /* at least NGI_TRUE_COUNTS_SIZE */       \
+        uint16_t *break_counts, size_t break_counts_length,                 /* at least NGI_BREAK_COUNTS_SIZE */      \
+        uint16_t *uncovered_list, size_t uncovered_list_length,             /* at least NGI_UNCOVERED_LIST_SIZE */    \
+        uint16_t *places, size_t places_length                              /* at least NGI_PLACES_SIZE */
+#define NGI_WRITTEN /* in place of const, in a call that writes those too */
+
 /* The full size of the buffer that ngi_run writes to: no report is longer. Longer may be lent here too. */
 #define NGI_OUT_SIZE (10 * NGI_TERMS + 64)
 
@@ -92,17 +127,8 @@ typedef struct {
  * full sizes. A reading refused for reason 1 changes nothing; refused for another, it leaves 0 in every entry up to the full sizes. Reasons
  * are tested in the order 1, 2, 3, then the text from the left, up to the first fault (4 to 8), whose line is told, then 9.
  */
-ngi_read_answer ngi_read(const uint8_t *text, size_t text_length,                      /* clause text; over NGI_TEXT bytes is reason 2 */
-                         uint64_t *names, size_t names_length,                         /* at least NGI_NAMES_SIZE */
-                         uint32_t *values, size_t values_length,                       /* at least NGI_VALUES_SIZE */
-                         uint16_t *starts, size_t starts_length,                       /* at least NGI_STARTS_SIZE */
-                         uint16_t *literals_table, size_t literals_table_length,       /* at least NGI_LITERALS_SIZE */
-                         uint16_t *occurrence_starts, size_t occurrence_starts_length, /* at least NGI_OCCURRENCE_STARTS_SIZE */
-                         uint16_t *occurrences, size_t occurrences_length,             /* at least NGI_OCCURRENCES_SIZE */
-                         uint16_t *true_counts, size_t true_counts_length,             /* at least NGI_TRUE_COUNTS_SIZE */
-                         uint16_t *break_counts, size_t break_counts_length,           /* at least NGI_BREAK_COUNTS_SIZE */
-                         uint16_t *uncovered_list, size_t uncovered_list_length,       /* at least NGI_UNCOVERED_LIST_SIZE */
-                         uint16_t *places, size_t places_length);                      /* at least NGI_PLACES_SIZE */
+ngi_read_answer ngi_read(const uint8_t *text, size_t text_length, /* clause text; over NGI_TEXT bytes is reason 2 */
+                         NGI_TABLE_PARAMETERS(NGI_WRITTEN));
 
 /* The answer to a walk. */
 typedef struct {
@@ -119,22 +145,13 @@ typedef struct {
  * hold the end of the last walk, ready for another call; names, starts, literals, occurrence starts and occurrences are only read. A refused
  * walk leaves every table as it was. Reasons are tested in the order 1, 11, 12.
  */
-ngi_walk_answer ngi_walk(uint32_t seed,                                                      /* the first state: 1 to 4,294,967,295 */
-                         uint32_t flips,                                                     /* for each walk: 0 to 100,000 */
-                         uint32_t walks,                                                     /* 1 to 1,000 */
-                         uint32_t bias,                                                      /* in thousandths: 0 to 1,000 */
-                         uint32_t terms, uint32_t clauses,                                   /* the counts that the last call gave, */
-                         uint32_t literals, uint32_t uncovered,                              /* all four of them */
-                         const uint64_t *names, size_t names_length,                         /* at least NGI_NAMES_SIZE */
-                         uint32_t *values, size_t values_length,                             /* at least NGI_VALUES_SIZE */
-                         const uint16_t *starts, size_t starts_length,                       /* at least NGI_STARTS_SIZE */
-                         const uint16_t *literals_table, size_t literals_table_length,       /* at least NGI_LITERALS_SIZE */
-                         const uint16_t *occurrence_starts, size_t occurrence_starts_length, /* at least NGI_OCCURRENCE_STARTS_SIZE */
-                         const uint16_t *occurrences, size_t occurrences_length,             /* at least NGI_OCCURRENCES_SIZE */
-                         uint16_t *true_counts, size_t true_counts_length,                   /* at least NGI_TRUE_COUNTS_SIZE */
-                         uint16_t *break_counts, size_t break_counts_length,                 /* at least NGI_BREAK_COUNTS_SIZE */
-                         uint16_t *uncovered_list, size_t uncovered_list_length,             /* at least NGI_UNCOVERED_LIST_SIZE */
-                         uint16_t *places, size_t places_length);                            /* at least NGI_PLACES_SIZE */
+ngi_walk_answer ngi_walk(uint32_t seed,                         /* the first state: 1 to 4,294,967,295 */
+                         uint32_t flips,                        /* for each walk: 0 to 100,000 */
+                         uint32_t walks,                        /* 1 to 1,000 */
+                         uint32_t bias,                         /* in thousandths: 0 to 1,000 */
+                         uint32_t terms, uint32_t clauses,      /* the counts that the last call gave, */
+                         uint32_t literals, uint32_t uncovered, /* all four of them */
+                         NGI_TABLE_PARAMETERS(const));
 
 /* The answer to a flip list. */
 typedef struct {
@@ -148,19 +165,10 @@ typedef struct {
  * date; the other tables are only read. The empty list is applied too. The whole list is looked at before any flip: a list is applied
  * whole or refused whole, and a refused one leaves every table as it was. Reasons are tested in the order 1, 14, 12, 13.
  */
-ngi_flip_answer ngi_flip(const uint16_t *list, size_t list_length,                           /* term numbers; over NGI_LIST is reason 14 */
-                         uint32_t terms, uint32_t clauses,                                   /* the counts that the last call gave, */
-                         uint32_t literals, uint32_t uncovered,                              /* all four of them */
-                         const uint64_t *names, size_t names_length,                         /* at least NGI_NAMES_SIZE */
-                         uint32_t *values, size_t values_length,                             /* at least NGI_VALUES_SIZE */
-                         const uint16_t *starts, size_t starts_length,                       /* at least NGI_STARTS_SIZE */
-                         const uint16_t *literals_table, size_t literals_table_length,       /* at least NGI_LITERALS_SIZE */
-                         const uint16_t *occurrence_starts, size_t occurrence_starts_length, /* at least NGI_OCCURRENCE_STARTS_SIZE */
-                         const uint16_t *occurrences, size_t occurrences_length,             /* at least NGI_OCCURRENCES_SIZE */
-                         uint16_t *true_counts, size_t true_counts_length,                   /* at least NGI_TRUE_COUNTS_SIZE */
-                         uint16_t *break_counts, size_t break_counts_length,                 /* at least NGI_BREAK_COUNTS_SIZE */
-                         uint16_t *uncovered_list, size_t uncovered_list_length,             /* at least NGI_UNCOVERED_LIST_SIZE */
-                         uint16_t *places, size_t places_length);                            /* at least NGI_PLACES_SIZE */
+ngi_flip_answer ngi_flip(const uint16_t *list, size_t list_length, /* term numbers; over NGI_LIST is reason 14 */
+                         uint32_t terms, uint32_t clauses,         /* the counts that the last call gave, */
+                         uint32_t literals, uint32_t uncovered,    /* all four of them */
+                         NGI_TABLE_PARAMETERS(const));
 
 /* The answer to a run. */
 typedef struct {
@@ -175,18 +183,9 @@ typedef struct {
  * leave 0 in every table up to its full size, a refused sheet leaves every table as it was, and a walk leaves its end. Where a table or out is
  * shorter than its full size, the call is refused for reason 1 and changes nothing.
  */
-ngi_run_answer ngi_run(const uint8_t *input, size_t input_length,                    /* the four lines of a sheet, then clause text */
-                       uint64_t *names, size_t names_length,                         /* at least NGI_NAMES_SIZE */
-                       uint32_t *values, size_t values_length,                       /* at least NGI_VALUES_SIZE */
-                       uint16_t *starts, size_t starts_length,                       /* at least NGI_STARTS_SIZE */
-                       uint16_t *literals_table, size_t literals_table_length,       /* at least NGI_LITERALS_SIZE */
-                       uint16_t *occurrence_starts, size_t occurrence_starts_length, /* at least NGI_OCCURRENCE_STARTS_SIZE */
-                       uint16_t *occurrences, size_t occurrences_length,             /* at least NGI_OCCURRENCES_SIZE */
-                       uint16_t *true_counts, size_t true_counts_length,             /* at least NGI_TRUE_COUNTS_SIZE */
-                       uint16_t *break_counts, size_t break_counts_length,           /* at least NGI_BREAK_COUNTS_SIZE */
-                       uint16_t *uncovered_list, size_t uncovered_list_length,       /* at least NGI_UNCOVERED_LIST_SIZE */
-                       uint16_t *places, size_t places_length,                       /* at least NGI_PLACES_SIZE */
-                       uint8_t *out, size_t out_length);                             /* at least NGI_OUT_SIZE */
+ngi_run_answer ngi_run(const uint8_t *input, size_t input_length, /* the four lines of a sheet, then clause text */
+                       NGI_TABLE_PARAMETERS(NGI_WRITTEN),
+                       uint8_t *out, size_t out_length);          /* at least NGI_OUT_SIZE */
 
 #ifdef __cplusplus
 }

@@ -24,6 +24,25 @@ fn without_comments(header: &str) -> String {
         .collect()
 }
 
+/// What a macro stands for, in a header whose continued lines are joined.
+fn meaning(joined: &str, head: &str) -> String {
+    let define = format!("#define {head}");
+    let mut meanings = joined.lines().filter_map(|line| line.strip_prefix(&define));
+    let first = meanings.next().unwrap_or_else(|| panic!("no {define}"));
+    first.trim().to_string()
+}
+
+/// The calls as a compiler sees them: the parameters of the tables are written out in each.
+fn written_out() -> String {
+    let joined = without_comments(HEADER).replace("\\\n", " ");
+    let tables = meaning(&joined, "NGI_TABLE_PARAMETERS(fixed)");
+    let read = tables.replace("fixed", "const");
+    let written = tables.replace("fixed", &meaning(&joined, "NGI_WRITTEN"));
+    joined
+        .replace("NGI_TABLE_PARAMETERS(const)", &read)
+        .replace("NGI_TABLE_PARAMETERS(NGI_WRITTEN)", &written)
+}
+
 fn in_rust(kind: &str) -> String {
     match kind {
         "size_t" => "usize".into(),
@@ -53,7 +72,7 @@ fn listed(parameters: &str) -> impl Iterator<Item = &str> {
 }
 
 fn calls_of_the_header() -> Calls {
-    let plain = without_comments(HEADER);
+    let plain = written_out();
     let calls = plain.split(';').filter_map(|part| {
         let (before, parameters) = part.trim().strip_suffix(')')?.split_once('(')?;
         let (kind, name) = before.lines().last()?.split_once(' ')?;
