@@ -11,23 +11,8 @@
 
 struct tables {
     uint32_t terms, clauses, literals, uncovered;
-    uint64_t names[NGI_NAMES_SIZE];
-    uint32_t values[NGI_VALUES_SIZE];
-    uint16_t starts[NGI_STARTS_SIZE];
-    uint16_t literals_table[NGI_LITERALS_SIZE];
-    uint16_t occurrence_starts[NGI_OCCURRENCE_STARTS_SIZE];
-    uint16_t occurrences[NGI_OCCURRENCES_SIZE];
-    uint16_t true_counts[NGI_TRUE_COUNTS_SIZE];
-    uint16_t break_counts[NGI_BREAK_COUNTS_SIZE];
-    uint16_t uncovered_list[NGI_UNCOVERED_LIST_SIZE];
-    uint16_t places[NGI_PLACES_SIZE];
+    ngi_tables lent;
 };
-
-/* The ten tables as arguments, in the order in which every call takes them. */
-#define LENT(table) (table), sizeof(table) / sizeof *(table)
-#define LENT_TABLES(t)                                                                                                               \
-    LENT((t)->names), LENT((t)->values), LENT((t)->starts), LENT((t)->literals_table), LENT((t)->occurrence_starts),                 \
-        LENT((t)->occurrences), LENT((t)->true_counts), LENT((t)->break_counts), LENT((t)->uncovered_list), LENT((t)->places)
 
 static _Noreturn void fail(const char *why)
 {

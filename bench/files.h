@@ -12,21 +12,21 @@ static void add_literal(struct tables *t, uint32_t literal)
 {
     if (t->literals == NGI_LITERALS)
         fail("too many literals");
-    t->literals_table[t->literals++] = (uint16_t)literal;
+    t->lent.literals_table[t->literals++] = (uint16_t)literal;
 }
 
 static void end_clause(struct tables *t)
 {
     if (t->clauses == NGI_CLAUSES)
         fail("too many clauses");
-    t->starts[++t->clauses] = (uint16_t)t->literals;
+    t->lent.starts[++t->clauses] = (uint16_t)t->literals;
 }
 
 /* Whether a term stands in the clause that is not yet ended. */
 static int stands(const struct tables *t, uint32_t term)
 {
-    for (uint32_t at = t->starts[t->clauses]; at < t->literals; at++)
-        if (t->literals_table[at] / 2 == term)
+    for (uint32_t at = t->lent.starts[t->clauses]; at < t->literals; at++)
+        if (t->lent.literals_table[at] / 2 == term)
             return 1;
     return 0;
 }
@@ -48,13 +48,13 @@ static void draw_clause(struct tables *t, uint32_t width)
 static void name_terms(struct tables *t)
 {
     for (uint32_t term = 0; term < t->terms; term++)
-        t->names[term] = (33 + term % 93) | (33 + term / 93) << 8;
+        t->lent.names[term] = (33 + term % 93) | (33 + term / 93) << 8;
 }
 
 static void draw_values(struct tables *t)
 {
     for (uint32_t term = 0; term < t->terms; term++)
-        t->values[term / 32] |= random_below(2) << term % 32;
+        t->lent.values[term / 32] |= random_below(2) << term % 32;
 }
 
 /* Clause numbers rise within a literal, since the clauses are gone through in order. */
@@ -62,31 +62,31 @@ static void place_occurrences(struct tables *t)
 {
     static uint16_t next[NGI_OCCURRENCE_STARTS_SIZE];
     for (uint32_t at = 0; at < t->literals; at++)
-        t->occurrence_starts[t->literals_table[at] + 1]++;
+        t->lent.occurrence_starts[t->lent.literals_table[at] + 1]++;
     for (uint32_t literal = 0; literal < 2 * t->terms; literal++)
-        t->occurrence_starts[literal + 1] += t->occurrence_starts[literal];
-    memcpy(next, t->occurrence_starts, sizeof next);
+        t->lent.occurrence_starts[literal + 1] += t->lent.occurrence_starts[literal];
+    memcpy(next, t->lent.occurrence_starts, sizeof next);
     for (uint32_t clause = 0; clause < t->clauses; clause++)
-        for (uint32_t at = t->starts[clause]; at < t->starts[clause + 1]; at++)
-            t->occurrences[next[t->literals_table[at]]++] = (uint16_t)clause;
+        for (uint32_t at = t->lent.starts[clause]; at < t->lent.starts[clause + 1]; at++)
+            t->lent.occurrences[next[t->lent.literals_table[at]]++] = (uint16_t)clause;
 }
 
 static void count_afresh(struct tables *t)
 {
     for (uint32_t clause = 0; clause < t->clauses; clause++) {
         uint32_t last = 0;
-        for (uint32_t at = t->starts[clause]; at < t->starts[clause + 1]; at++) {
-            uint32_t literal = t->literals_table[at], term = literal / 2;
-            if ((t->values[term / 32] >> term % 32 & 1) != (literal & 1)) {
-                t->true_counts[clause]++;
+        for (uint32_t at = t->lent.starts[clause]; at < t->lent.starts[clause + 1]; at++) {
+            uint32_t literal = t->lent.literals_table[at], term = literal / 2;
+            if ((t->lent.values[term / 32] >> term % 32 & 1) != (literal & 1)) {
+                t->lent.true_counts[clause]++;
                 last = term;
             }
         }
-        if (t->true_counts[clause] == 1)
-            t->break_counts[last]++;
-        if (t->true_counts[clause] == 0) {
-            t->places[clause] = (uint16_t)t->uncovered;
-            t->uncovered_list[t->uncovered++] = (uint16_t)clause;
+        if (t->lent.true_counts[clause] == 1)
+            t->lent.break_counts[last]++;
+        if (t->lent.true_counts[clause] == 0) {
+            t->lent.places[clause] = (uint16_t)t->uncovered;
+            t->lent.uncovered_list[t->uncovered++] = (uint16_t)clause;
         }
     }
 }

@@ -32,7 +32,7 @@ static void draw_list(uint32_t terms, size_t length)
 /* The first flips of the list; a refusal ends the program. */
 static void apply(flip_function *flip, struct tables *t, size_t flips)
 {
-    ngi_flip_answer answer = flip(list, flips, t->terms, t->clauses, t->literals, t->uncovered, LENT_TABLES(t));
+    ngi_flip_answer answer = flip(list, flips, t->terms, t->clauses, t->literals, t->uncovered, NGI_LEND(t->lent));
     if (answer.result != 1)
         fail("the list is refused");
     t->terms = answer.terms;

@@ -8,20 +8,7 @@ __typeof__(ngi_flip) plain_flip;
 __typeof__(ngi_read) plain_read;
 __typeof__(ngi_walk) plain_walk;
 
-/* The ten tables as parameters; `fixed` is const where names, clauses and occurrences are only read. */
-#define TABLE_PARAMETERS(fixed)                                             \
-    fixed uint64_t *names, size_t names_length,                             \
-        uint32_t *values, size_t values_length,                             \
-        fixed uint16_t *starts, size_t starts_length,                       \
-        fixed uint16_t *literals_table, size_t literals_table_length,       \
-        fixed uint16_t *occurrence_starts, size_t occurrence_starts_length, \
-        fixed uint16_t *occurrences, size_t occurrences_length,             \
-        uint16_t *true_counts, size_t true_counts_length,                   \
-        uint16_t *break_counts, size_t break_counts_length,                 \
-        uint16_t *uncovered_list, size_t uncovered_list_length,             \
-        uint16_t *places, size_t places_length
-
-/* Of these parameters the tables, and whether they have their full sizes. */
+/* Of the parameters of such a call the tables, and whether they have their full sizes. */
 #define TABLES names, values, starts, literals_table, occurrence_starts, occurrences, true_counts, break_counts, uncovered_list, places
 #define ARE_FULL                                                                                               \
     (names_length >= NGI_NAMES_SIZE && values_length >= NGI_VALUES_SIZE && starts_length >= NGI_STARTS_SIZE && \

@@ -15,7 +15,7 @@ static ngi_flip_answer answer(const struct tables *t, uint32_t reason)
 }
 
 ngi_flip_answer plain_flip(const uint16_t *list, size_t list_length,
-                           uint32_t terms, uint32_t clauses, uint32_t literals, uint32_t uncovered, TABLE_PARAMETERS(const))
+                           uint32_t terms, uint32_t clauses, uint32_t literals, uint32_t uncovered, NGI_TABLE_PARAMETERS(const))
 {
     struct tables t = {terms, clauses, literals, uncovered, TABLES};
     if (!ARE_FULL)

@@ -196,7 +196,7 @@ static ngi_read_answer read_into(struct tables *t, const uint8_t *text, size_t l
     return (ngi_read_answer){1, NGI_NO_REASON, 0, t->terms, t->clauses, t->literal_count, t->uncovered};
 }
 
-ngi_read_answer plain_read(const uint8_t *text, size_t text_length, TABLE_PARAMETERS())
+ngi_read_answer plain_read(const uint8_t *text, size_t text_length, NGI_TABLE_PARAMETERS(NGI_WRITTEN))
 {
     struct tables t = {0, 0, 0, 0, TABLES};
     if (!ARE_FULL)

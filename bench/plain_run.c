@@ -10,11 +10,7 @@
 enum { SHEET_FORM = 10, LINES = 4, MOST_DIGITS = 10 };
 
 static uint8_t input[NGI_TEXT + 1];
-static uint64_t names[NGI_NAMES_SIZE];
-static uint32_t values[NGI_VALUES_SIZE];
-static uint16_t starts[NGI_STARTS_SIZE], literals[NGI_LITERALS_SIZE], occurrence_starts[NGI_OCCURRENCE_STARTS_SIZE],
-    occurrences[NGI_OCCURRENCES_SIZE], trues[NGI_TRUE_COUNTS_SIZE], breaks[NGI_BREAK_COUNTS_SIZE], list[NGI_UNCOVERED_LIST_SIZE],
-    places[NGI_PLACES_SIZE];
+static ngi_tables lent;
 
 /* --- the order sheet --- */
 
@@ -76,9 +72,9 @@ static int refuse(uint32_t reason, uint32_t line)
 
 static void print_term(uint32_t term)
 {
-    if (!(values[term / 32] >> term % 32 & 1))
+    if (!(lent.values[term / 32] >> term % 32 & 1))
         putchar('~');
-    for (uint64_t name = names[term]; name != 0; name >>= 8)
+    for (uint64_t name = lent.names[term]; name != 0; name >>= 8)
         putchar((int)(name & 255));
 }
 
@@ -86,7 +82,7 @@ static void print_answer(uint32_t terms)
 {
     uint32_t chosen = 0;
     for (uint32_t word = 0; word < NGI_VALUES_SIZE; word++)
-        chosen += (uint32_t)__builtin_popcount(values[word]);
+        chosen += (uint32_t)__builtin_popcount(lent.values[word]);
     printf("chosen=%u\nanswer=", chosen);
     for (uint32_t term = 0; term < terms; term++) {
         if (term > 0)
@@ -110,16 +106,14 @@ static int report(const struct walker *w, const struct tables *t)
 
 static ngi_read_answer read_text(const struct rest *r)
 {
-    return plain_read(r->at, (size_t)(r->end - r->at), names, NGI_NAMES_SIZE, values, NGI_VALUES_SIZE, starts, NGI_STARTS_SIZE, literals,
-                      NGI_LITERALS_SIZE, occurrence_starts, NGI_OCCURRENCE_STARTS_SIZE, occurrences, NGI_OCCURRENCES_SIZE, trues,
-                      NGI_TRUE_COUNTS_SIZE, breaks, NGI_BREAK_COUNTS_SIZE, list, NGI_UNCOVERED_LIST_SIZE, places, NGI_PLACES_SIZE);
+    return plain_read(r->at, (size_t)(r->end - r->at), NGI_LEND(lent));
 }
 
 static int walk_and_report(const uint32_t *numbers, const ngi_read_answer *a)
 {
     struct walker w = {numbers[0], numbers[1], numbers[2], numbers[3], 0, 0};
-    struct tables t = {a->terms, a->clauses, a->literals, a->uncovered, names, values, starts, literals, occurrence_starts, occurrences,
-                       trues, breaks, list, places};
+    struct tables t = {a->terms, a->clauses, a->literals, a->uncovered, lent.names, lent.values, lent.starts, lent.literals_table,
+                       lent.occurrence_starts, lent.occurrences, lent.true_counts, lent.break_counts, lent.uncovered_list, lent.places};
     do
         walk_once(&w, &t);
     while (t.uncovered > 0 && w.walks_begun < w.walks);

@@ -22,17 +22,17 @@ enum { FLIPS = 100000, BIAS = 400, ROUNDS_OF_STARTS = 100, MOST_WORDS = 8 };
 
 static void print_literal(const struct tables *t, uint32_t literal)
 {
-    char name[sizeof *t->names + 1] = {0};
-    memcpy(name, &t->names[literal / 2], sizeof *t->names);
+    char name[sizeof *t->lent.names + 1] = {0};
+    memcpy(name, &t->lent.names[literal / 2], sizeof *t->lent.names);
     printf("%s%s", literal & 1 ? "~" : "", name);
 }
 
 static void print_clauses(const struct tables *t)
 {
     for (uint32_t clause = 0; clause < t->clauses; clause++)
-        for (uint32_t at = t->starts[clause]; at < t->starts[clause + 1]; at++) {
-            print_literal(t, t->literals_table[at]);
-            putchar(at + 1 < t->starts[clause + 1] ? ' ' : '\n');
+        for (uint32_t at = t->lent.starts[clause]; at < t->lent.starts[clause + 1]; at++) {
+            print_literal(t, t->lent.literals_table[at]);
+            putchar(at + 1 < t->lent.starts[clause + 1] ? ' ' : '\n');
         }
 }
 

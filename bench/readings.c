@@ -86,7 +86,7 @@ static void make_text(uint32_t terms, uint32_t clauses, uint32_t literals)
 
 static ngi_read_answer read_text(read_function *read, struct tables *t)
 {
-    return read(text, text_length, LENT_TABLES(t));
+    return read(text, text_length, NGI_LEND(t->lent));
 }
 
 static void read_accepted(read_function *read, struct tables *t, uint32_t readings)

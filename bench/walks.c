@@ -31,7 +31,7 @@ static struct tables one, other;
 
 static ngi_walk_answer walk(walk_function *by, struct tables *t, struct order o)
 {
-    ngi_walk_answer answer = by(o.seed, o.flips, o.walks, o.bias, t->terms, t->clauses, t->literals, t->uncovered, LENT_TABLES(t));
+    ngi_walk_answer answer = by(o.seed, o.flips, o.walks, o.bias, t->terms, t->clauses, t->literals, t->uncovered, NGI_LEND(t->lent));
     t->uncovered = answer.uncovered;
     return answer;
 }
