@@ -75,23 +75,23 @@ typedef struct {
 /* The full size of the buffer that ngi_run writes to: no report is longer. Longer may be lent here too. */
 #define NGI_OUT_SIZE (10 * NGI_TERMS + 64)
 
-/* Why a call was refused. */
+/* Why a call was refused, in the words of reasons.txt; what is more stands after a semicolon. */
 enum {
     NGI_NO_REASON = 0,
-    NGI_TABLE_TOO_SHORT = 1,   /* a lent table, or the buffer lent to ngi_run, is shorter than its full size */
-    NGI_TEXT_TOO_LONG = 2,     /* a text longer than NGI_TEXT */
-    NGI_TEXT_CUT = 3,          /* a text that is not empty and does not end with byte 10 */
+    NGI_TABLE_TOO_SHORT = 1,   /* a lent table or buffer is shorter than its full size; a buffer is lent to ngi_run alone */
+    NGI_TEXT_TOO_LONG = 2,     /* the text or the whole input is too long; over NGI_TEXT bytes */
+    NGI_TEXT_CUT = 3,          /* the last line does not end with byte 10; an empty text has no line */
     NGI_BYTE_NOT_ALLOWED = 4,  /* a byte that may not stand there */
-    NGI_NINTH_BYTE = 5,        /* a name's ninth byte */
-    NGI_TOO_MANY_TERMS = 6,    /* a new term when NGI_TERMS are known */
-    NGI_TOO_MANY_LITERALS = 7, /* a literal when NGI_LITERALS are held */
-    NGI_TOO_MANY_CLAUSES = 8,  /* a kept line when NGI_CLAUSES are held */
-    NGI_NO_CLAUSE = 9,         /* no line was kept */
-    NGI_SHEET_FORM = 10,       /* an order sheet's line has the wrong form; told by ngi_run alone, in print */
-    NGI_OUT_OF_RANGE = 11,     /* a number outside its range */
-    NGI_TABLES_DISAGREE = 12,  /* no clause stands, or some count or entry of a table is not what the others say */
-    NGI_UNKNOWN_TERM = 13,     /* a flip list names a term not below the term count */
-    NGI_LIST_TOO_LONG = 14     /* a flip list longer than NGI_LIST */
+    NGI_NINTH_BYTE = 5,        /* a name is longer than 8 bytes */
+    NGI_TOO_MANY_TERMS = 6,    /* more terms than may be held; over NGI_TERMS */
+    NGI_TOO_MANY_LITERALS = 7, /* more literals than may be held; over NGI_LITERALS */
+    NGI_TOO_MANY_CLAUSES = 8,  /* more clauses than may be held; over NGI_CLAUSES */
+    NGI_NO_CLAUSE = 9,         /* no clause was kept */
+    NGI_SHEET_FORM = 10,       /* a line of the order sheet is missing or does not have its form; told by ngi_run alone, in print */
+    NGI_OUT_OF_RANGE = 11,     /* a number is outside its range */
+    NGI_TABLES_DISAGREE = 12,  /* no clause stands, or the tables do not agree; some count or entry of a table is not what the others say */
+    NGI_UNKNOWN_TERM = 13,     /* a term is named that is not there; a flip list has one not below the term count */
+    NGI_LIST_TOO_LONG = 14     /* a flip list is too long; over NGI_LIST entries */
 };
 
 /* The answer to a draw, a choice or heads. */

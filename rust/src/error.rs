@@ -10,7 +10,7 @@ use std::fmt;
 /// let error = Tables::new().read("a b\nbillabong\n").unwrap_err();
 /// assert_eq!(error.reason(), Reason::NinthByte);
 /// assert_eq!(error.line(), Some(2));
-/// assert_eq!(error.to_string(), "line 2: a name has a ninth byte");
+/// assert_eq!(error.to_string(), "line 2: a name is longer than 8 bytes");
 /// ```
 #[derive(Clone, Copy, Debug, PartialEq, Eq, Hash)]
 pub struct Error {
@@ -18,43 +18,43 @@ pub struct Error {
     line: Option<u32>,
 }
 
-/// The reasons, in the order of their numbers; each is followed by its words.
+/// The reasons, in the order of their numbers; each number is followed by the reason's words.
 #[derive(Clone, Copy, Debug, PartialEq, Eq, Hash)]
 pub enum Reason {
-    /// 1: a lent table, or the buffer of a run, is shorter than its full size. Here none is, so no call
-    /// gives it.
+    /// 1: a lent table or buffer is shorter than its full size. Here none is, so no call gives it.
     TableTooShort = 1,
-    /// 2: the text is longer than 65,536 bytes.
+    /// 2: the text or the whole input is too long. At most 65,536 bytes are read.
     TextTooLong = 2,
-    /// 3: the text is not empty and does not end with byte 10.
+    /// 3: the last line does not end with byte 10.
     TextCut = 3,
-    /// 4: a byte may not stand there.
+    /// 4: a byte that may not stand there.
     ByteNotAllowed = 4,
-    /// 5: a name has a ninth byte.
+    /// 5: a name is longer than 8 bytes.
     NinthByte = 5,
-    /// 6: a new term is met when 2,048 are known.
+    /// 6: more terms than may be held. At most 2,048.
     TooManyTerms = 6,
-    /// 7: a literal is met when 16,384 are held.
+    /// 7: more literals than may be held. At most 16,384.
     TooManyLiterals = 7,
-    /// 8: a line is kept when 8,192 clauses are held.
+    /// 8: more clauses than may be held. At most 8,192.
     TooManyClauses = 8,
-    /// 9: no line was kept.
+    /// 9: no clause was kept.
     NoClause = 9,
-    /// 10: the order sheet has the wrong form. [`run`](crate::run) alone reads one, and prints it.
+    /// 10: a line of the order sheet is missing or does not have its form. [`run`](crate::run) alone
+    /// reads one, and prints it.
     SheetForm = 10,
     /// 11: a number is outside its range.
     OutOfRange = 11,
     /// 12: no clause stands, or the tables do not agree. Here they do, so it means that no text was
     /// read, or that the last one was refused.
     TablesDisagree = 12,
-    /// 13: a flip list names a term that is not below the term count.
+    /// 13: a term is named that is not there. By a flip list: one that is not below the term count.
     UnknownTerm = 13,
-    /// 14: a flip list is longer than 65,536.
+    /// 14: a flip list is too long. At most 65,536 flips.
     ListTooLong = 14,
 }
 
 impl Reason {
-    /// All fourteen, in the order of their numbers.
+    /// All of them, in the order of their numbers.
     pub const ALL: [Reason; 14] = [
         Reason::TableTooShort,
         Reason::TextTooLong,
@@ -72,7 +72,7 @@ impl Reason {
         Reason::ListTooLong,
     ];
 
-    /// The number, from 1 to 14, as the program prints it.
+    /// The number, as the program prints it.
     pub fn number(self) -> u32 {
         self as u32
     }
@@ -80,24 +80,24 @@ impl Reason {
     /// The reason in plain words.
     ///
     /// ```
-    /// assert_eq!(ngiyarumba::Reason::NoClause.words(), "no line was kept");
+    /// assert_eq!(ngiyarumba::Reason::NoClause.words(), "no clause was kept");
     /// ```
     pub fn words(self) -> &'static str {
         match self {
             Reason::TableTooShort => "a lent table or buffer is shorter than its full size",
-            Reason::TextTooLong => "the text is longer than 65,536 bytes",
-            Reason::TextCut => "the text is not empty and does not end with byte 10",
-            Reason::ByteNotAllowed => "a byte may not stand there",
-            Reason::NinthByte => "a name has a ninth byte",
-            Reason::TooManyTerms => "a new term is met when 2,048 are known",
-            Reason::TooManyLiterals => "a literal is met when 16,384 are held",
-            Reason::TooManyClauses => "a line is kept when 8,192 clauses are held",
-            Reason::NoClause => "no line was kept",
-            Reason::SheetForm => "the order sheet has the wrong form",
+            Reason::TextTooLong => "the text or the whole input is too long",
+            Reason::TextCut => "the last line does not end with byte 10",
+            Reason::ByteNotAllowed => "a byte that may not stand there",
+            Reason::NinthByte => "a name is longer than 8 bytes",
+            Reason::TooManyTerms => "more terms than may be held",
+            Reason::TooManyLiterals => "more literals than may be held",
+            Reason::TooManyClauses => "more clauses than may be held",
+            Reason::NoClause => "no clause was kept",
+            Reason::SheetForm => "a line of the order sheet is missing or does not have its form",
             Reason::OutOfRange => "a number is outside its range",
             Reason::TablesDisagree => "no clause stands, or the tables do not agree",
-            Reason::UnknownTerm => "a flip list names a term that is not below the term count",
-            Reason::ListTooLong => "a flip list is longer than 65,536",
+            Reason::UnknownTerm => "a term is named that is not there",
+            Reason::ListTooLong => "a flip list is too long",
         }
     }
 }

@@ -42,7 +42,7 @@ fn giving_up_says_what_is_left() {
 #[test]
 fn a_refusal_says_its_line() {
     let words = place(&sheet("refused")).unwrap_err();
-    assert_eq!(words, "line 3: a name has a ninth byte");
+    assert_eq!(words, "line 3: a name is longer than 8 bytes");
 }
 
 #[test]
