@@ -1,6 +1,6 @@
 #!/usr/bin/env python3
-"""map_names.py [SCOPE]: every name that the pages of docs cite exists, each row of the map cites something, each name in the column of its
-kind, and each open point of docs/DECISIONS.md cites what says it. Last line: 'N passed, M failed'.
+"""map_names.py [DOCUMENT-01 [DOCUMENT-02]]: every name that the pages of docs cite exists, each row of the map cites something, each name in the
+column of its kind, and each open point of docs/DECISIONS.md cites what says it. Last line: 'N passed, M failed'.
 
 `CRATE/File.name`          a definition of crates/CRATE/specs or a law of crates/CRATE/proofs
 `CRATE::name`              a public function of crates/CRATE/src, also `CRATE::Type::name`
@@ -14,18 +14,24 @@ kind, and each open point of docs/DECISIONS.md cites what says it. Last line: 'N
 What an open point cites stands in brackets at its end, by its bare name: definitions of `written` or of the crates that it cites. A crate and a
 file before them, as in [`scan` Scan: `tilde`], say that they stand there.
 
-The rows of the map's tables whose first column is "sentence" carry the scope's words, " .. " where some are left out. The scope is no part
-of this repository. Given its path, the rows are compared with it: its headings, each sentence once and in its order, no words without a row;
-the seal that is printed then stands in docs/MAP.md. Without it the seal shows that those words are the ones that were compared."""
-import hashlib
+The map's rows carry the documents' words (map_rows.py). The documents are no part of this repository. Given their paths, the rows are compared with
+them: the headings, each sentence once and in its order, no words without a row; the seal that is printed then stands in that part of docs/MAP.md.
+Without them the seals show that those words are the ones that were compared.
+
+Each request of document 02 says that it is "Not landed.", and its rows then cite nothing, or "Landed: `docs/landings/NOTE.md`.", by a note of its own, and
+each of its rows then cites something. A row whose words a request has replaced is marked "(replaced by request N)", once that request has landed."""
 import re
 import sys
 from pathlib import Path
+
+sys.dont_write_bytecode = True  # nothing is written into the tree
+from map_rows import NOT_LANDED, UNITS, compare, seal, sealed, sections  # noqa: E402
 
 ROOT = Path(__file__).resolve().parent.parent
 MAP = "docs/MAP.md"
 DECISIONS = "docs/DECISIONS.md"
 PAGES = (MAP, "docs/STATEMENTS.md", DECISIONS, "docs/PROOFS.md")
+PAGES_IF_THERE = ("docs/CRATES.md", "docs/TOUR.md")
 PROMISES = ("written", "scan", "draw", "words", "reader")  # the crates whose specs define what is promised
 COLUMNS = {
     "definition": {"definition"},
@@ -123,35 +129,52 @@ def kind_of(name):
 # ---- the rows of the map
 
 
-def rows(page):
-    """Heading, the columns' names and the cells of each row."""
-    heading, columns = "", None
-    for line in page.splitlines():
-        if line.startswith("## "):
-            heading = line[3:].strip()
-        if not line.startswith("|"):
-            columns = None
-        elif columns is None:
-            columns = [cell.strip() for cell in line.strip("|").split("|")]
-        elif set(line) - set("|-"):
-            yield heading, columns, [cell.strip() for cell in line.strip("|").split("|")]
-
-
-def faults_of(columns, cells):
-    if len(cells) != len(columns):
-        return ["has not as many cells as columns"]
-    kinds = [(column, name, kind_of(name)) for column, cell in zip(columns[1:], cells[1:]) for name in cited(cell)]
+def faults_of(row):
+    """What is wrong with the row of something that has landed."""
+    kinds = [(column, name, kind_of(name)) for column, cell in zip(row.columns[1:], row.cells[1:]) for name in cited(cell)]
     faults = [f"{name} is no citation" for _, name, kind in kinds if kind == ""]
     faults += [f"{name} is no {column}" for column, name, kind in kinds if kind and kind not in COLUMNS.get(column, {kind})]
     return faults if any(kind for *_, kind in kinds) else faults + ["cites nothing"]
 
 
-def sentences(page):
-    return [(heading, cells[0]) for heading, columns, cells in rows(page) if columns[0] == "sentence"]
+def faults_of_mark(row, states):
+    """What is wrong with the requests that are said to have replaced a row's words."""
+    faults = [f"there is no request {number}" for number in row.replaced_by() if number not in states]
+    faults += [f"request {number} has not landed" for number in row.replaced_by() if number in states and not states[number]]
+    return faults + (["its mark is not '(replaced by request N)'"] if "(replaced" in row.words() else [])
 
 
-def seal(page):
-    return hashlib.sha256("\n".join(f"{heading}\t{words}" for heading, words in sentences(page)).encode()).hexdigest()[:16]
+def faults_of_row(section, row, states):
+    if len(row.cells) != len(row.columns):
+        return ["has not as many cells as columns"]
+    if section.request() and not section.note():
+        return (["it has not landed, and its row is filled in"] if any(row.cells[1:]) else []) + faults_of_mark(row, states)
+    return faults_of(row) + faults_of_mark(row, states)
+
+
+def faults_of_request(section, notes):
+    """Whether it is told once that a request has landed or has not, and if so in a note of its own."""
+    if len(section.states()) != 1 or not (section.note() or section.states() == [NOT_LANDED]):
+        return [f"not one line '{NOT_LANDED}' or 'Landed: `docs/landings/NOTE.md`.'"]
+    if section.note():
+        return [f"{section.note()} is the note of another request too"] if notes.count(section.note()) > 1 else []
+    words = " ".join(line for line in section.lines if not line.startswith("|"))
+    return [f"it has not landed, and cites {name}" for name in cited(words) if kind_of(name) != ""]
+
+
+def faults_of_map(page):
+    """How many rows and requests are as they are to be, and what is wrong with the others."""
+    requests = [section for section in sections(page) if section.request()]
+    states = {section.request(): section.note() for section in requests}
+    judged = [(section.heading, faults_of_request(section, [other.note() for other in requests])) for section in requests]
+    judged += [(row.cells[0], faults_of_row(section, row, states)) for section in sections(page) for row in section.rows()]
+    return sum(not wrong for _, wrong in judged), [f"{MAP}: {fault}: {words}" for words, wrong in judged for fault in wrong]
+
+
+def faults_of_names(pages):
+    """How many of the names cited are there, and which are missing."""
+    kinds = [(page, name, kind_of(name)) for page in pages for name in cited((ROOT / page).read_text())]
+    return sum(1 for *_, kind in kinds if kind), [f"{page}: {name} is missing" for page, name, kind in kinds if kind is None]
 
 
 # ---- the open points
@@ -180,48 +203,9 @@ def faults_of_point(words):
     return [f"{name} is no definition" for name in missing] if crate or cited(names) else ["cites nothing"]
 
 
-# ---- the scope
-
-
-def units(scope):
-    """Its paragraphs, points and table rows under their headings; neither what is quoted as input and output nor the forms of later requests."""
-    heading, found = "", []
-    plain = re.sub(r"(?ms)^```.*?^```$", "", scope)
-    plain = re.sub(r"(?m)^\|.*\n\|[-|]+\n", "", plain)
-    for line in plain.splitlines():
-        if line.startswith("#"):
-            heading = line.lstrip("# ")
-        elif line.startswith("|"):
-            found.append((heading, " .. ".join(cell.strip() for cell in line.strip("|").split("|"))))
-        elif line.strip() and not re.match(r'- ".*" \(02\):', line):
-            found.append((heading, re.sub(r"^(- |\d+\. )", "", line.strip())))
-    return found
-
-
-def unmapped(heading, words):
-    words = words.strip(" .,:;\n")
-    return [] if words in ("", "and") else [f"{heading}: no row for: {words}"]
-
-
-def compare(page, scope):
-    """Words of the scope that no row carries, and rows that are not its words in their place."""
-    parts, faults = units(scope), []
-    headings = list(dict.fromkeys(heading for heading, _ in parts))
-    if list(dict.fromkeys(heading for heading, _ in sentences(page))) != headings:
-        faults.append("the headings are not the scope's, in its order")
-    for heading in headings:
-        rest, cut = "\n".join(unit for under, unit in parts if under == heading), False
-        for words in (words for under, words in sentences(page) if under == heading):
-            for place, part in enumerate(words.removesuffix(" ..").split(" .. ")):
-                before, found, after = rest.partition(part)
-                if not found:
-                    faults.append(f"{heading}: not the scope's words after the row before: {words}")
-                    break
-                faults += [] if place or cut else unmapped(heading, before)
-                rest = after
-            cut = words.endswith(" ..")
-        faults += [] if cut else unmapped(heading, rest)
-    return faults
+def faults_of_points(page):
+    judged = [(number, faults_of_point(words)) for number, words in points(page)]
+    return sum(not wrong for _, wrong in judged), [f"{DECISIONS}: point {number}: {fault}" for number, wrong in judged for fault in wrong]
 
 
 # ----
@@ -229,24 +213,13 @@ def compare(page, scope):
 
 def main():
     page = (ROOT / MAP).read_text()
-    passed, faults = 0, []
-    for name_of_page in PAGES:
-        kinds = [(name, kind_of(name)) for name in cited((ROOT / name_of_page).read_text())]
-        passed += sum(1 for _, kind in kinds if kind)
-        faults += [f"{name_of_page}: {name} is missing" for name, kind in kinds if kind is None]
-    for _, columns, cells in rows(page):
-        wrong = faults_of(columns, cells)
-        passed += not wrong
-        faults += [f"{MAP}: {fault}: {cells[0]}" for fault in wrong]
-    for number, words in points((ROOT / DECISIONS).read_text()):
-        wrong = faults_of_point(words)
-        passed += not wrong
-        faults += [f"{DECISIONS}: point {number}: {fault}" for fault in wrong]
-    if len(sys.argv) > 1:
-        faults += compare(page, Path(sys.argv[1]).read_text())
-        print(f"{len(sentences(page))} rows; their seal is {seal(page)}")
-    if f"seal {seal(page)}" not in page:
-        faults.append(f"{MAP}: its sentences are not those that were compared with the scope")
+    judged = [faults_of_names(PAGES + tuple(name for name in PAGES_IF_THERE if (ROOT / name).exists()))]
+    judged += [faults_of_map(page), faults_of_points((ROOT / DECISIONS).read_text())]
+    passed, faults = sum(many for many, _ in judged), [fault for _, wrong in judged for fault in wrong]
+    for part, path in zip(UNITS, sys.argv[1:]):
+        faults += compare(page, part, Path(path).read_text())
+        print(f"{part}: the seal of its sentences is {seal(page, part)}")
+    faults += [f"{MAP}: the sentences of {part} are not those that were compared with it" for part in UNITS if not sealed(page, part)]
     print("\n".join(faults + [f"{passed} passed, {len(faults)} failed"]))
     return 1 if faults or not passed else 0
 
