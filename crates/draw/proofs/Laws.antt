@@ -1,5 +1,5 @@
--- A draw from a state of 1 to 2 ^ 32 - 1 leaves such a state, so a walk never meets the state 0. Two equal numbers alone have the
--- exclusive or 0, and no number but 0 is equal to itself shifted. Assumes nothing.
+-- A draw from a state of 1 to 2 ^ 32 - 1 leaves such a state, so a walk never meets the state 0.
+-- Two equal numbers alone have the exclusive or 0, and no number but 0 is equal to itself shifted. Assumes nothing.
 use mathlib.Core.Path.{_≡_, refl, sym, ap, _∙_}
 use Prim.Native.Nat.{ℕ, zero, suc, _+_, _*_, _/_, _%_, _^_, _≤_, _<_}
 use native.Mathlib.Omega.{arith}

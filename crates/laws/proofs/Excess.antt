@@ -1,5 +1,5 @@
--- The excess is never read: lent tables that are the same up to their full sizes are judged alike, and each call on them answers the same and
--- leaves the same up to the full sizes, whether or not they are full or agree. Assumes nothing.
+-- The excess is never read: on tables that are the same up to their full sizes each call answers the same and leaves the same up to them.
+-- Such tables are judged alike, whether or not they are full or agree. Assumes nothing.
 use Prim.Native.Nat.{ℕ, _+_, _-_, _/_, _%_, _≤_, _<_}
 use mathlib.Core.Path.{_≡_, refl, ap, ap₂, sym, subst₂, _∙_}
 use mathlib.Core.Bool.{Bool, true, false, not, cond, _||_}

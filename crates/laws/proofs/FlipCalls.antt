@@ -1,4 +1,4 @@
--- Demand 3 of the library's call: a flip list is applied whole or refused whole, and accepted it leaves what is demanded, in any order.
+-- Demand 3 of the library's call: a flip list is applied whole, which leaves what is demanded in any order, or refused whole, each reason exactly when.
 -- Assumes nothing.
 use Prim.Native.Nat.{ℕ, _+_, _-_, _≤_, _<_}
 use mathlib.Core.Logic.{_↔_, _⊎_, inl, inr}

@@ -1,5 +1,5 @@
--- The moments that walks come by: what starts and steps keep holds at each, their end is one of them, and the generator's state is never 0
--- where a draw is made. Assumes nothing.
+-- The moments that walks come by: what starts and steps keep holds at each, and the generator's state is never 0 where a draw is made.
+-- The walks' end is one of them. Assumes nothing.
 use Prim.Native.Nat.{ℕ, zero, suc, _+_, _^_, _≤_, _<_}
 use mathlib.Core.Path.{_≡_, refl, sym, subst, _∙_}
 use mathlib.Core.Bool.{true, false, true≢false}

@@ -1,5 +1,5 @@
--- What is picked stands in the list that it is picked from: a choice, the literals at the least, the literal of a clause; and a clause has at
--- most one literal for each term. Assumes nothing.
+-- What is picked stands in the list that it is picked from, and a clause has at most one literal for each term.
+-- Picked are an entry by a choice, the literals at the least, and the literal of a clause. Assumes nothing.
 use Prim.Native.Nat.{ℕ, _*_, _≤_, _<_, min}
 use mathlib.Core.Path.{_≡_, refl, sym}
 use mathlib.Core.Bool.{Bool, true, false}

@@ -1,5 +1,5 @@
--- A reading as a call: what is left where it is accepted and where it is refused, which reason is given exactly when, and that what stood
--- before makes no difference. Assumes nothing.
+-- A reading as a call: what is left where it is accepted and where it is refused, and which reason is given exactly when.
+-- What stood before makes no difference. Assumes nothing.
 use Prim.Native.Nat.{ℕ, _+_, _-_, _≤_, _<_}
 use mathlib.Core.Logic.{_↔_, _⊎_, inl, inr}
 use mathlib.Core.Path.{_≡_, refl, ap, sym, subst, subst₂, _∙_}

@@ -1,5 +1,5 @@
--- The program's run: what it prints and leaves, refused, found and given up; and that a found answer names every term once and, read back as
--- literals, covers each clause kept. Assumes nothing.
+-- The program's run: what it prints and leaves, refused, found and given up; a found answer covers each clause kept.
+-- Such an answer names every term once, and is read back as literals. Assumes nothing.
 use Prim.Native.Nat.{ℕ, suc, _+_, _*_, _^_, _≤_, _<_}
 use mathlib.Core.Logic.{_↔_, _⊎_, inl, inr}
 use mathlib.Core.Path.{_≡_, refl, ap, ap₂, sym, subst, _∙_}

@@ -1,5 +1,5 @@
--- A valid state written into full tables stands there, as calls leave it: the next call is given neither reason 1 nor reason 12, and a file's
--- counts are those given. Assumes nothing.
+-- A valid state written into full tables stands there, as calls leave it: the next call is given neither reason 1 nor reason 12.
+-- A file's counts are those given. Assumes nothing.
 use Prim.Native.Nat.{ℕ, _≤_}
 use mathlib.Core.Path.{_≡_, refl, ap, _∙_}
 use mathlib.Core.Bool.{true}

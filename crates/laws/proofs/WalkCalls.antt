@@ -1,5 +1,5 @@
--- Demand 2 of the library's call: a walk finds or gives up exactly as the written walk does, or is refused whole; each reason is given exactly
--- when; and the values that stood before make no difference. Assumes nothing.
+-- Demands 1 and 2 of the library's call: it finds or gives up exactly as the written walk does, or is refused; each reason is given exactly when.
+-- The values that stood before make no difference. Assumes nothing.
 use Prim.Native.Nat.{ℕ, _<_}
 use mathlib.Core.Logic.{_↔_, _⊎_, inl, inr}
 use mathlib.Core.Path.{_≡_, refl, ap, ap₂, sym, subst, subst₂, _∙_}

@@ -1,4 +1,4 @@
--- Facts that are held at once, and what follows from them. Assumes nothing.
+-- Facts that are held at once, and what follows from them; what is left behind ten tables, and behind five of them. Assumes nothing.
 use Prim.Native.Nat.{ℕ}
 use mathlib.Core.Path.{_≡_, sym, _∙_}
 use mathlib.Core.List.{List}

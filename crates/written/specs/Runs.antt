@@ -1,5 +1,5 @@
--- The program's run on lent tables and a lent buffer, and the values of a sheet, worked out under small limits: two tables, each under one statement,
--- which antt computes. Assumes nothing.
+-- The program's run on lent tables and a lent buffer, and the values of a sheet, worked out under small limits: two tables of examples.
+-- Each stands under one statement, which antt computes. Assumes nothing.
 use Prim.Native.Nat.{ℕ, _-_}
 use Prim.Native.String.{String}
 use mathlib.Core.Path.{refl}
