@@ -18,8 +18,11 @@ LONGEST = 160
 
 
 def crates():
-    listed = re.findall(r"(?m)^(\w+):", (ROOT / "crates.txt").read_text())
-    return [ROOT / "crates" / name for name in listed]
+    listed = [ROOT / "crates" / name for name in re.findall(r"(?m)^(\w+):", (ROOT / "crates.txt").read_text())]
+    missing = [crate.name for crate in listed if not crate.is_dir()]
+    if missing:
+        sys.exit(f"crates.txt lists what is not there: {', '.join(missing)}")
+    return listed
 
 
 def modules(folder):
@@ -50,7 +53,13 @@ def section():
             text += f"\n### {crate.name}\n| file | what |\n|---|---|\n"
             text += "".join(f"| {name} | {words(path)} |\n" for name, path in rows)
         count += len(rows)
-    return text + "\n", count
+    return text, count
+
+
+def first_difference(page, made):
+    """The first line of the page that is not as it is to be."""
+    pairs = zip(page.splitlines() + [""], made.splitlines() + [""])
+    return next((f"'{stands}' is to be '{due}'" for stands, due in pairs if stands != due), "a line is missing, or one too many")
 
 
 def main():
@@ -60,15 +69,15 @@ def main():
     if page.count("\n" + HEADING) != 1:
         sys.exit(f"docs/PROOFS.md: the heading '{HEADING.strip()}' does not stand there once")
     before, rest = page.split("\n" + HEADING)
-    after = rest[rest.index("\n## ") + 1 :]
+    _, mark, after = rest.partition("\n## ")
     text, count = section()
     if count == 0:
         sys.exit("no file with laws was found")
-    made = before + "\n" + text + after
-    if sys.argv[1:] == [] and made != page:
+    made = before + "\n" + text + mark + after
+    if sys.argv[1:] == ["--check"] and made != page:
+        sys.exit(f"docs/PROOFS.md: {first_difference(page, made)}: run tools/index.py")
+    if made != page:
         PAGE.write_text(made)
-    elif made != page:
-        sys.exit("docs/PROOFS.md: 'Index of laws' is not what the files say: run tools/index.py")
     print(f"{count} files")
 
 
