@@ -90,10 +90,8 @@ fn points_agree(
     uncovered: &[u16],
     places: &[u16],
 ) -> bool
-    requires { ⌜ (areFull narrow (lent (now names) (now values) (now starts) (now literals) (now «occurrence_starts») (now occurrences)
-        (now trues) (now breaks) (now uncovered) (now places)) ≡ true) × (countsFit narrow n ≡ true) ⌝ }
-    ensures { λ r. ⌜ r ≡ agree narrow n (lent (now (names .entry)) (now (values .entry)) (now (starts .entry)) (now (literals .entry))
-        (now («occurrence_starts» .entry)) (now (occurrences .entry)) (now (trues .entry)) (now (breaks .entry)) (now (uncovered .entry)) (now (places .entry))) ⌝ }
+    requires { ⌜ (areFull narrow (lentAt names values starts literals «occurrence_starts» occurrences trues breaks uncovered places) ≡ true) × (countsFit narrow n ≡ true) ⌝ }
+    ensures { λ r. ⌜ r ≡ agree narrow n (lentBefore names values starts literals «occurrence_starts» occurrences trues breaks uncovered places) ⌝ }
 {
     if agreeing_file::clauses_hold(n, names, starts, literals, occurrence_starts, occurrences) {
         if agreeing_counts::counts_agree(
@@ -140,10 +138,8 @@ pub fn agrees(
     uncovered: &[u16],
     places: &[u16],
 ) -> bool
-    ensures { λ r. ⌜ r ≡ (areFull narrow (lent (now (names .entry)) (now (values .entry)) (now (starts .entry)) (now (literals .entry))
-        (now («occurrence_starts» .entry)) (now (occurrences .entry)) (now (trues .entry)) (now (breaks .entry)) (now (uncovered .entry)) (now (places .entry)))
-        && agree narrow n (lent (now (names .entry)) (now (values .entry)) (now (starts .entry)) (now (literals .entry))
-        (now («occurrence_starts» .entry)) (now (occurrences .entry)) (now (trues .entry)) (now (breaks .entry)) (now (uncovered .entry)) (now (places .entry)))) ⌝ }
+    ensures { λ r. ⌜ r ≡ (areFull narrow (lentBefore names values starts literals «occurrence_starts» occurrences trues breaks uncovered places)
+        && agree narrow n (lentBefore names values starts literals «occurrence_starts» occurrences trues breaks uncovered places)) ⌝ }
 {
     if are_full(
         names,

@@ -5,7 +5,7 @@ ghost use Prim.Native.Nat.{_+_, _-_, _≤_, _<_};
 ghost use lib.ListN.{length, getD, set};
 ghost use Rattle.written.specs.Lists.{steps};
 ghost use Rattle.machine.specs.Uncovered.{uncovered, leaves, CanLeave};
-ghost use Rattle.machine.specs.Tallies.{tallies, lowered, CanLower, pickOf, belowOf, gainOne, loseOne, CanGain, CanLose, CanSteps};
+ghost use Rattle.machine.specs.Tallies.{talliesAt, talliesBefore, talliesAfter, lowered, CanLower, pickOf, belowOf, gainOne, loseOne, CanGain, CanLose, CanSteps};
 ghost use Rattle.machine.specs.Moving.{moving, occurring, upOf, flipTerm, CanFlip};
 
 // One less at k.
@@ -77,9 +77,9 @@ fn gain_one(
     v: usize,
     c: u16,
 ) -> usize
-    requires { ⌜ CanGain 65536 v c (tallies (now trues) (now breaks) (now list) (now places) number) × (v < 65536) ⌝ }
-    ensures { λ r. ⌜ tallies (now (trues .exit)) (now (breaks .exit)) (now (list .exit)) (now (places .exit)) r
-        ≡ gainOne v c (tallies (now (trues .entry)) (now (breaks .entry)) (now (list .entry)) (now (places .entry)) number) ⌝ }
+    requires { ⌜ CanGain 65536 v c (talliesAt trues breaks list places number) × (v < 65536) ⌝ }
+    ensures { λ r. ⌜ talliesAfter trues breaks list places r
+        ≡ gainOne v c (talliesBefore trues breaks list places number) ⌝ }
 {
     let at = c as usize;
     let k = trues[at];
@@ -105,9 +105,9 @@ fn lose_one(
     v: usize,
     c: u16,
 ) -> usize
-    requires { ⌜ CanLose 65536 v c (tallies (now trues) (now breaks) (now list) (now places) number) × (v < 65536) ⌝ }
-    ensures { λ r. ⌜ tallies (now (trues .exit)) (now (breaks .exit)) (now (list .exit)) (now (places .exit)) r
-        ≡ loseOne v c (tallies (now (trues .entry)) (now (breaks .entry)) (now (list .entry)) (now (places .entry)) number) ⌝ }
+    requires { ⌜ CanLose 65536 v c (talliesAt trues breaks list places number) × (v < 65536) ⌝ }
+    ensures { λ r. ⌜ talliesAfter trues breaks list places r
+        ≡ loseOne v c (talliesBefore trues breaks list places number) ⌝ }
 {
     let at = c as usize;
     let k = trues[at];
@@ -133,9 +133,9 @@ fn gain_run(
     number: usize,
     v: usize,
 ) -> usize
-    requires { ⌜ CanSteps (CanGain 65536 v) (gainOne v) (now run) (tallies (now trues) (now breaks) (now list) (now places) number) × (v < 65536) ⌝ }
-    ensures { λ r. ⌜ tallies (now (trues .exit)) (now (breaks .exit)) (now (list .exit)) (now (places .exit)) r
-        ≡ steps (gainOne v) (now (run .entry)) (tallies (now (trues .entry)) (now (breaks .entry)) (now (list .entry)) (now (places .entry)) number) ⌝ }
+    requires { ⌜ CanSteps (CanGain 65536 v) (gainOne v) (now run) (talliesAt trues breaks list places number) × (v < 65536) ⌝ }
+    ensures { λ r. ⌜ talliesAfter trues breaks list places r
+        ≡ steps (gainOne v) (now (run .entry)) (talliesBefore trues breaks list places number) ⌝ }
 {
     let mut n = number;
     let mut i = 0;
@@ -156,9 +156,9 @@ fn lose_run(
     number: usize,
     v: usize,
 ) -> usize
-    requires { ⌜ CanSteps (CanLose 65536 v) (loseOne v) (now run) (tallies (now trues) (now breaks) (now list) (now places) number) × (v < 65536) ⌝ }
-    ensures { λ r. ⌜ tallies (now (trues .exit)) (now (breaks .exit)) (now (list .exit)) (now (places .exit)) r
-        ≡ steps (loseOne v) (now (run .entry)) (tallies (now (trues .entry)) (now (breaks .entry)) (now (list .entry)) (now (places .entry)) number) ⌝ }
+    requires { ⌜ CanSteps (CanLose 65536 v) (loseOne v) (now run) (talliesAt trues breaks list places number) × (v < 65536) ⌝ }
+    ensures { λ r. ⌜ talliesAfter trues breaks list places r
+        ≡ steps (loseOne v) (now (run .entry)) (talliesBefore trues breaks list places number) ⌝ }
 {
     let mut n = number;
     let mut i = 0;
@@ -190,10 +190,10 @@ pub fn flip_term(
     v: usize,
 ) -> usize
     requires { ⌜ CanFlip 65536 (occurring (now «occurrence_starts») (now occurrences)) v
-        (moving (now values) (tallies (now trues) (now breaks) (now list) (now places) number)) ⌝ }
-    ensures { λ r. ⌜ moving (now (values .exit)) (tallies (now (trues .exit)) (now (breaks .exit)) (now (list .exit)) (now (places .exit)) r)
+        (moving (now values) (talliesAt trues breaks list places number)) ⌝ }
+    ensures { λ r. ⌜ moving (now (values .exit)) (talliesAfter trues breaks list places r)
         ≡ flipTerm (occurring (now («occurrence_starts» .entry)) (now (occurrences .entry))) v
-        (moving (now (values .entry)) (tallies (now (trues .entry)) (now (breaks .entry)) (now (list .entry)) (now (places .entry)) number)) ⌝ }
+        (moving (now (values .entry)) (talliesBefore trues breaks list places number)) ⌝ }
 {
     let up = up_literal(values, v);
     words::turn(values, v);
@@ -218,10 +218,10 @@ pub fn flip_all(
 ) -> usize
     requires { ⌜ CanSteps (CanFlip 65536 (occurring (now «occurrence_starts») (now occurrences)))
         (flipTerm (occurring (now «occurrence_starts») (now occurrences))) (now terms)
-        (moving (now values) (tallies (now trues) (now breaks) (now list) (now places) number)) ⌝ }
-    ensures { λ r. ⌜ moving (now (values .exit)) (tallies (now (trues .exit)) (now (breaks .exit)) (now (list .exit)) (now (places .exit)) r)
+        (moving (now values) (talliesAt trues breaks list places number)) ⌝ }
+    ensures { λ r. ⌜ moving (now (values .exit)) (talliesAfter trues breaks list places r)
         ≡ steps (flipTerm (occurring (now («occurrence_starts» .entry)) (now (occurrences .entry)))) (now (terms .entry))
-        (moving (now (values .entry)) (tallies (now (trues .entry)) (now (breaks .entry)) (now (list .entry)) (now (places .entry)) number)) ⌝ }
+        (moving (now (values .entry)) (talliesBefore trues breaks list places number)) ⌝ }
 {
     let mut n = number;
     let mut k = 0;

@@ -3,10 +3,10 @@ ghost use mathlib.Core.Path.{_≡_};
 ghost use lib.Dec.{ltb};
 ghost use Rattle.written.specs.Lists.{all};
 ghost use Rattle.written.specs.Limits.{narrow};
-ghost use Rattle.written.specs.Tables.{lent};
+ghost use Rattle.written.specs.Lending.{lentBefore, lentAfter};
 ghost use Rattle.written.specs.Outcomes.{flipsOf};
-ghost use Rattle.machine.specs.Tallies.{tallies};
-ghost use Rattle.machine.specs.Moving.{fixed, moving};
+ghost use Rattle.machine.specs.Tallies.{talliesAt, talliesBefore, talliesAfter};
+ghost use Rattle.machine.specs.Moving.{fixedAt, fixedBefore, moving};
 ghost use Rattle.machine.specs.Passes.{applied, CanApply};
 ghost use Rattle.flipping_lists.specs.Tests.{testsOf};
 use written::Counts;
@@ -49,8 +49,7 @@ fn verdict(
     uncovered: &[u16],
     places: &[u16],
 ) -> Tested
-    ensures { λ r. ⌜ r ≡ testsOf narrow (now (list .entry)) n (lent (now (names .entry)) (now (values .entry)) (now (starts .entry)) (now (literals .entry))
-        (now («occurrence_starts» .entry)) (now (occurrences .entry)) (now (trues .entry)) (now (breaks .entry)) (now (uncovered .entry)) (now (places .entry))) ⌝ }
+    ensures { λ r. ⌜ r ≡ testsOf narrow (now (list .entry)) n (lentBefore names values starts literals «occurrence_starts» occurrences trues breaks uncovered places) ⌝ }
 {
     if !agreeing::are_full(
         names,
@@ -106,11 +105,11 @@ fn flip_list(
     places: &mut [u16],
     number: usize,
 ) -> usize
-    requires { ⌜ CanApply 65536 clauses (fixed (now starts) (now literals) (now «occurrence_starts») (now occurrences)) (now list)
-        (moving (now values) (tallies (now trues) (now breaks) (now uncovered) (now places) number)) ⌝ }
-    ensures { λ r. ⌜ moving (now (values .exit)) (tallies (now (trues .exit)) (now (breaks .exit)) (now (uncovered .exit)) (now (places .exit)) r)
-        ≡ applied clauses (fixed (now (starts .entry)) (now (literals .entry)) (now («occurrence_starts» .entry)) (now (occurrences .entry))) (now (list .entry))
-        (moving (now (values .entry)) (tallies (now (trues .entry)) (now (breaks .entry)) (now (uncovered .entry)) (now (places .entry)) number)) ⌝ }
+    requires { ⌜ CanApply 65536 clauses (fixedAt starts literals «occurrence_starts» occurrences) (now list)
+        (moving (now values) (talliesAt trues breaks uncovered places number)) ⌝ }
+    ensures { λ r. ⌜ moving (now (values .exit)) (talliesAfter trues breaks uncovered places r)
+        ≡ applied clauses (fixedBefore starts literals «occurrence_starts» occurrences) (now (list .entry))
+        (moving (now (values .entry)) (talliesBefore trues breaks uncovered places number)) ⌝ }
 {
     recounts::open_all(clauses, values, starts, literals, trues, places);
     let m = flipping::flip_all(
@@ -155,12 +154,9 @@ pub fn apply(
     uncovered: &mut [u16],
     places: &mut [u16],
 ) -> Flipped
-    ensures { λ r. ⌜ (r ≡ flipsOf narrow (now (list .entry)) n (lent (now (names .entry)) (now (values .entry)) (now (starts .entry)) (now (literals .entry))
-        (now («occurrence_starts» .entry)) (now (occurrences .entry)) (now (trues .entry)) (now (breaks .entry)) (now (uncovered .entry)) (now (places .entry))) .answer)
-        × (lent (now (names .entry)) (now (values .exit)) (now (starts .entry)) (now (literals .entry))
-        (now («occurrence_starts» .entry)) (now (occurrences .entry)) (now (trues .exit)) (now (breaks .exit)) (now (uncovered .exit)) (now (places .exit))
-        ≡ flipsOf narrow (now (list .entry)) n (lent (now (names .entry)) (now (values .entry)) (now (starts .entry)) (now (literals .entry))
-        (now («occurrence_starts» .entry)) (now (occurrences .entry)) (now (trues .entry)) (now (breaks .entry)) (now (uncovered .entry)) (now (places .entry))) .tables) ⌝ }
+    ensures { λ r. ⌜ (r ≡ flipsOf narrow (now (list .entry)) n (lentBefore names values starts literals «occurrence_starts» occurrences trues breaks uncovered places) .answer)
+        × (lentAfter names values starts literals «occurrence_starts» occurrences trues breaks uncovered places
+        ≡ flipsOf narrow (now (list .entry)) n (lentBefore names values starts literals «occurrence_starts» occurrences trues breaks uncovered places) .tables) ⌝ }
 {
     match verdict(
         list,

@@ -2,8 +2,10 @@
 use Prim.Native.Nat.{ℕ, _+_, _-_, _*_, _/_, _≤_, _<_}
 use mathlib.Core.List.{List, []}
 use lib.ListN.{length, getD}
+use denote.Ref.{now}
 use Rattle.words.specs.Words.{bitAt, turnAt}
 use Rattle.written.specs.Lists.{total, steps}
+use Rattle.written.specs.Lending.{Held, Slice}
 use Rattle.written.specs.Agreement.{partOf}
 use Rattle.machine.specs.Literals.{valueIn, xorTrue, Readable}
 use Rattle.machine.specs.Tallies.{Tallies, gainOne, loseOne, CanGain, CanLose, CanSteps}
@@ -17,6 +19,15 @@ pub record Fixed : Type 0 where
 
 abbrev pub fixed : List ℕ → List ℕ → List ℕ → List ℕ → Fixed
 fixed s l o c = record { starts = s; literals = l; occurrenceStarts = o; occurrences = c }
+
+abbrev pub fixedAt : Held → Held → Held → Held → Fixed
+fixedAt s l o c = fixed (now s) (now l) (now o) (now c)
+
+abbrev pub fixedBefore : Slice → Slice → Slice → Slice → Fixed
+fixedBefore s l o c = fixedAt (s .entry) (l .entry) (o .entry) (c .entry)
+
+abbrev pub fixedAfter : Slice → Slice → Slice → Slice → Fixed
+fixedAfter s l o c = fixedAt (s .exit) (l .exit) (o .exit) (c .exit)
 
 -- what a flip reads: no clause
 abbrev pub occurring : List ℕ → List ℕ → Fixed

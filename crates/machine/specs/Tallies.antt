@@ -7,6 +7,8 @@ use mathlib.Core.List.{List, [], _∷_}
 use lib.ListN.{length, getD, set}
 use lib.Dec.{eqb, ltb}
 use lib.Bits.{bitXor}
+use denote.Ref.{now}
+use Rattle.written.specs.Lending.{Held, Slice}
 use Rattle.machine.specs.Uncovered.{Uncovered, leaves, marks, enters, CanLeave, CanEnter}
 
 -- true counts, break counts and the uncovered list
@@ -17,6 +19,16 @@ pub record Tallies : Type 0 where
 
 abbrev pub tallies : List ℕ → List ℕ → List ℕ → List ℕ → ℕ → Tallies
 tallies ts bs us ps n = record { trues = ts; breaks = bs; uncovered = record { list = us; places = ps; number = n } }
+
+-- those of lent tables as they stand, at entry and at exit
+abbrev pub talliesAt : Held → Held → Held → Held → ℕ → Tallies
+talliesAt ts bs us ps n = tallies (now ts) (now bs) (now us) (now ps) n
+
+abbrev pub talliesBefore : Slice → Slice → Slice → Slice → ℕ → Tallies
+talliesBefore ts bs us ps n = talliesAt (ts .entry) (bs .entry) (us .entry) (ps .entry) n
+
+abbrev pub talliesAfter : Slice → Slice → Slice → Slice → ℕ → Tallies
+talliesAfter ts bs us ps n = talliesAt (ts .exit) (bs .exit) (us .exit) (ps .exit) n
 
 -- entry k one more, and one less
 unfoldable pub raised : List ℕ → ℕ → List ℕ

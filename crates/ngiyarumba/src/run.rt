@@ -1,7 +1,7 @@
 // The program's whole work over the boundary.
 ghost use mathlib.Core.Path.{_≡_};
 ghost use Rattle.written.specs.Limits.{narrow};
-ghost use Rattle.written.specs.Tables.{lent};
+ghost use Rattle.written.specs.Lending.{lentBefore, lentAfter};
 ghost use Rattle.written.specs.Program.{runOf};
 ghost use Rattle.running_text.specs.Running.{answered};
 use written::RunAnswer;
@@ -22,10 +22,8 @@ pub extern "C" fn ngi_run(
     places: &mut [u16],
     out: &mut [u8],
 ) -> RunAnswer
-    ensures { λ r. ⌜ answered r (lent (now (names .exit)) (now (values .exit)) (now (starts .exit)) (now («literals_table» .exit))
-        (now («occurrence_starts» .exit)) (now (occurrences .exit)) (now («true_counts» .exit)) (now («break_counts» .exit)) (now («uncovered_list» .exit)) (now (places .exit))) (now (out .exit))
-        ≡ runOf narrow (now (input .entry)) (lent (now (names .entry)) (now (values .entry)) (now (starts .entry)) (now («literals_table» .entry))
-        (now («occurrence_starts» .entry)) (now (occurrences .entry)) (now («true_counts» .entry)) (now («break_counts» .entry)) (now («uncovered_list» .entry)) (now (places .entry))) (now (out .entry)) ⌝ }
+    ensures { λ r. ⌜ answered r (lentAfter names values starts «literals_table» «occurrence_starts» occurrences «true_counts» «break_counts» «uncovered_list» places) (now (out .exit))
+        ≡ runOf narrow (now (input .entry)) (lentBefore names values starts «literals_table» «occurrence_starts» occurrences «true_counts» «break_counts» «uncovered_list» places) (now (out .entry)) ⌝ }
 {
     running::run_sheet(
         input,

@@ -1,7 +1,7 @@
 // A walk over the boundary.
 ghost use mathlib.Core.Path.{_≡_};
 ghost use Rattle.written.specs.Limits.{narrow};
-ghost use Rattle.written.specs.Tables.{lent};
+ghost use Rattle.written.specs.Lending.{lentBefore, lentAfter};
 ghost use Rattle.written.specs.Outcomes.{walkOf};
 ghost use Rattle.answers.specs.Answers.{order, counts, walkAnswer};
 use answers::walk::WalkAnswer;
@@ -30,12 +30,9 @@ pub extern "C" fn ngi_walk(
     uncovered_list: &mut [u16],
     places: &mut [u16],
 ) -> WalkAnswer
-    ensures { λ r. ⌜ (r ≡ walkAnswer (walkOf narrow (order seed flips walks bias) (counts terms clauses literals uncovered) (lent (now (names .entry)) (now (values .entry)) (now (starts .entry)) (now («literals_table» .entry))
-        (now («occurrence_starts» .entry)) (now (occurrences .entry)) (now («true_counts» .entry)) (now («break_counts» .entry)) (now («uncovered_list» .entry)) (now (places .entry))) .answer))
-        × (lent (now (names .entry)) (now (values .exit)) (now (starts .entry)) (now («literals_table» .entry))
-        (now («occurrence_starts» .entry)) (now (occurrences .entry)) (now («true_counts» .exit)) (now («break_counts» .exit)) (now («uncovered_list» .exit)) (now (places .exit))
-        ≡ walkOf narrow (order seed flips walks bias) (counts terms clauses literals uncovered) (lent (now (names .entry)) (now (values .entry)) (now (starts .entry)) (now («literals_table» .entry))
-        (now («occurrence_starts» .entry)) (now (occurrences .entry)) (now («true_counts» .entry)) (now («break_counts» .entry)) (now («uncovered_list» .entry)) (now (places .entry))) .tables) ⌝ }
+    ensures { λ r. ⌜ (r ≡ walkAnswer (walkOf narrow (order seed flips walks bias) (counts terms clauses literals uncovered) (lentBefore names values starts «literals_table» «occurrence_starts» occurrences «true_counts» «break_counts» «uncovered_list» places) .answer))
+        × (lentAfter names values starts «literals_table» «occurrence_starts» occurrences «true_counts» «break_counts» «uncovered_list» places
+        ≡ walkOf narrow (order seed flips walks bias) (counts terms clauses literals uncovered) (lentBefore names values starts «literals_table» «occurrence_starts» occurrences «true_counts» «break_counts» «uncovered_list» places) .tables) ⌝ }
 {
     let o = Order {
         seed: seed,

@@ -2,7 +2,7 @@
 ghost use mathlib.Core.Path.{_≡_};
 ghost use Rattle.written.specs.Limits.{narrow};
 ghost use Rattle.written.specs.Reading.{readText};
-ghost use Rattle.written.specs.Tables.{lent};
+ghost use Rattle.written.specs.Lending.{lentAt, lentBefore, lentAfter};
 ghost use Rattle.written.specs.Outcomes.{readLeaves, readingOf};
 ghost use Rattle.reading.specs.Bare.{Bare};
 use reading_end::Tested;
@@ -25,14 +25,10 @@ fn read_cleared(
     uncovered: &mut [u16],
     places: &mut [u16],
 ) -> Read
-    requires { ⌜ Bare narrow (lent (now names) (now values) (now starts) (now literals) (now «occurrence_starts») (now occurrences)
-        (now trues) (now breaks) (now uncovered) (now places)) ⌝ }
-    ensures { λ r. ⌜ (r ≡ readLeaves narrow (lent (now (names .entry)) (now (values .entry)) (now (starts .entry)) (now (literals .entry))
-        (now («occurrence_starts» .entry)) (now (occurrences .entry)) (now (trues .entry)) (now (breaks .entry)) (now (uncovered .entry)) (now (places .entry))) (readText narrow (now (text .entry))) .answer)
-        × (lent (now (names .exit)) (now (values .exit)) (now (starts .exit)) (now (literals .exit))
-        (now («occurrence_starts» .exit)) (now (occurrences .exit)) (now (trues .exit)) (now (breaks .exit)) (now (uncovered .exit)) (now (places .exit))
-        ≡ readLeaves narrow (lent (now (names .entry)) (now (values .entry)) (now (starts .entry)) (now (literals .entry))
-        (now («occurrence_starts» .entry)) (now (occurrences .entry)) (now (trues .entry)) (now (breaks .entry)) (now (uncovered .entry)) (now (places .entry))) (readText narrow (now (text .entry))) .tables) ⌝ }
+    requires { ⌜ Bare narrow (lentAt names values starts literals «occurrence_starts» occurrences trues breaks uncovered places) ⌝ }
+    ensures { λ r. ⌜ (r ≡ readLeaves narrow (lentBefore names values starts literals «occurrence_starts» occurrences trues breaks uncovered places) (readText narrow (now (text .entry))) .answer)
+        × (lentAfter names values starts literals «occurrence_starts» occurrences trues breaks uncovered places
+        ≡ readLeaves narrow (lentBefore names values starts literals «occurrence_starts» occurrences trues breaks uncovered places) (readText narrow (now (text .entry))) .tables) ⌝ }
 {
     match reading_end::verdict(text) {
         Tested::Failed(reason) => {
@@ -80,12 +76,9 @@ pub fn read(
     uncovered: &mut [u16],
     places: &mut [u16],
 ) -> Read
-    ensures { λ r. ⌜ (r ≡ readingOf narrow (now (text .entry)) (lent (now (names .entry)) (now (values .entry)) (now (starts .entry)) (now (literals .entry))
-        (now («occurrence_starts» .entry)) (now (occurrences .entry)) (now (trues .entry)) (now (breaks .entry)) (now (uncovered .entry)) (now (places .entry))) .answer)
-        × (lent (now (names .exit)) (now (values .exit)) (now (starts .exit)) (now (literals .exit))
-        (now («occurrence_starts» .exit)) (now (occurrences .exit)) (now (trues .exit)) (now (breaks .exit)) (now (uncovered .exit)) (now (places .exit))
-        ≡ readingOf narrow (now (text .entry)) (lent (now (names .entry)) (now (values .entry)) (now (starts .entry)) (now (literals .entry))
-        (now («occurrence_starts» .entry)) (now (occurrences .entry)) (now (trues .entry)) (now (breaks .entry)) (now (uncovered .entry)) (now (places .entry))) .tables) ⌝ }
+    ensures { λ r. ⌜ (r ≡ readingOf narrow (now (text .entry)) (lentBefore names values starts literals «occurrence_starts» occurrences trues breaks uncovered places) .answer)
+        × (lentAfter names values starts literals «occurrence_starts» occurrences trues breaks uncovered places
+        ≡ readingOf narrow (now (text .entry)) (lentBefore names values starts literals «occurrence_starts» occurrences trues breaks uncovered places) .tables) ⌝ }
 {
     if !agreeing::are_full(
         names,

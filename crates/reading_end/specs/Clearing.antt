@@ -2,9 +2,11 @@
 use mathlib.Core.List.{List}
 use Prim.Native.Nat.{ℕ}
 use lib.ListN.{take}
+use denote.Ref.{now}
 use Rattle.written.specs.Lists.{padded}
 use Rattle.written.specs.Limits.{Limits}
 use Rattle.written.specs.Tables.{Tables, each, fullSizes, over}
+use Rattle.written.specs.Lending.{Slice}
 use Rattle.machine.specs.Passes.{zeroed}
 use Rattle.reading_lines.specs.Drafting.{Desk, desk}
 
@@ -32,6 +34,12 @@ pub record Others : Type 0 where
 
 abbrev pub others : List ℕ → List ℕ → List ℕ → List ℕ → List ℕ → Others
 others v os oc tc u = record { values = v; occurrenceStarts = os; occurrences = oc; trues = tc; uncovered = u }
+
+abbrev pub othersBefore : Slice → Slice → Slice → Slice → Slice → Others
+othersBefore v os oc tc u = others (now (v .entry)) (now (os .entry)) (now (oc .entry)) (now (tc .entry)) (now (u .entry))
+
+abbrev pub othersAfter : Slice → Slice → Slice → Slice → Slice → Others
+othersAfter v os oc tc u = others (now (v .exit)) (now (os .exit)) (now (oc .exit)) (now (tc .exit)) (now (u .exit))
 
 abbrev pub othersIn : Tables → Others
 othersIn t = others (t .values) (t .occurrenceStarts) (t .occurrences) (t .trues) (t .uncovered)

@@ -4,11 +4,11 @@ ghost use mathlib.Core.Path.{_≡_};
 ghost use Prim.Native.Nat.{_≤_};
 ghost use lib.ListN.{length};
 ghost use Rattle.written.specs.Limits.{narrow};
-ghost use Rattle.machine.specs.Tallies.{tallies};
-ghost use Rattle.machine.specs.Moving.{fixed, moving};
-ghost use Rattle.reading_lines.specs.Drafting.{desk};
+ghost use Rattle.machine.specs.Tallies.{talliesAt, talliesBefore, talliesAfter};
+ghost use Rattle.machine.specs.Moving.{fixedAt, fixedBefore, fixedAfter, moving};
+ghost use Rattle.reading_lines.specs.Drafting.{deskBefore, deskAfter};
 ghost use Rattle.reading_end.specs.Tests.{textTests};
-ghost use Rattle.reading_end.specs.Clearing.{wiped, others, wipedOthers, restZeroed};
+ghost use Rattle.reading_end.specs.Clearing.{wiped, othersBefore, othersAfter, wipedOthers, restZeroed};
 ghost use Rattle.reading_end.specs.Finishing.{finishing, finished, CanFinish};
 use reading_lines::Place;
 use written::Counts;
@@ -43,8 +43,8 @@ pub fn clear_draft(
     stamps: &mut [u16],
     slots: &mut [u16],
 )
-    ensures { λ _. ⌜ desk (now (names .exit)) (now (starts .exit)) (now (literals .exit)) (now (stamps .exit)) (now (slots .exit))
-        ≡ wiped narrow (desk (now (names .entry)) (now (starts .entry)) (now (literals .entry)) (now (stamps .entry)) (now (slots .entry))) ⌝ }
+    ensures { λ _. ⌜ deskAfter names starts literals stamps slots
+        ≡ wiped narrow (deskBefore names starts literals stamps slots) ⌝ }
 {
     tables::clear_names(names, 2048);
     tables::clear(starts, 8193);
@@ -61,8 +61,8 @@ pub fn clear_others(
     trues: &mut [u16],
     uncovered: &mut [u16],
 )
-    ensures { λ _. ⌜ others (now (values .exit)) (now («occurrence_starts» .exit)) (now (occurrences .exit)) (now (trues .exit)) (now (uncovered .exit))
-        ≡ wipedOthers narrow (others (now (values .entry)) (now («occurrence_starts» .entry)) (now (occurrences .entry)) (now (trues .entry)) (now (uncovered .entry))) ⌝ }
+    ensures { λ _. ⌜ othersAfter values «occurrence_starts» occurrences trues uncovered
+        ≡ wipedOthers narrow (othersBefore values «occurrence_starts» occurrences trues uncovered) ⌝ }
 {
     tables::clear_words(values, 64);
     tables::clear(occurrence_starts, 4097);
@@ -98,12 +98,12 @@ pub fn finish(
     uncovered: &mut [u16],
     places: &mut [u16],
 ) -> Counts
-    requires { ⌜ CanFinish 65536 narrow p (fixed (now starts) (now literals) (now «occurrence_starts») (now occurrences))
-        (moving (now values) (tallies (now trues) (now breaks) (now uncovered) (now places) 0)) ⌝ }
-    ensures { λ r. ⌜ finishing r (fixed (now (starts .entry)) (now (literals .exit)) (now («occurrence_starts» .exit)) (now (occurrences .exit)))
-        (moving (now (values .entry)) (tallies (now (trues .exit)) (now (breaks .exit)) (now (uncovered .exit)) (now (places .exit)) (r .uncovered)))
-        ≡ finished narrow p (fixed (now (starts .entry)) (now (literals .entry)) (now («occurrence_starts» .entry)) (now (occurrences .entry)))
-        (moving (now (values .entry)) (tallies (now (trues .entry)) (now (breaks .entry)) (now (uncovered .entry)) (now (places .entry)) 0)) ⌝ }
+    requires { ⌜ CanFinish 65536 narrow p (fixedAt starts literals «occurrence_starts» occurrences)
+        (moving (now values) (talliesAt trues breaks uncovered places 0)) ⌝ }
+    ensures { λ r. ⌜ finishing r (fixedAfter starts literals «occurrence_starts» occurrences)
+        (moving (now (values .entry)) (talliesAfter trues breaks uncovered places (r .uncovered)))
+        ≡ finished narrow p (fixedBefore starts literals «occurrence_starts» occurrences)
+        (moving (now (values .entry)) (talliesBefore trues breaks uncovered places 0)) ⌝ }
 {
     let terms = p.terms;
     let clauses = p.clauses;

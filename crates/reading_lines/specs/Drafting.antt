@@ -3,11 +3,13 @@ use Prim.Native.Nat.{ℕ, suc, _+_, _≤_, _<_}
 use mathlib.Core.Path.{_≡_}
 use mathlib.Core.List.{List, flatten}
 use lib.ListN.{length, getD, take, drop}
+use denote.Ref.{now}
 use Rattle.scan.specs.declared.Token.{Token}
 use Rattle.scan.specs.Scan.{start}
 use Rattle.written.specs.Lists.{total}
 use Rattle.written.specs.Limits.{Limits}
 use Rattle.written.specs.Tables.{startsFrom, over}
+use Rattle.written.specs.Lending.{Held, Slice}
 use Rattle.written.specs.Reading.{Reading, Draft, Turn, accepted, refused, goes, drops, ends, nothing, atToken, readFrom}
 use Rattle.reading_literal.specs.Line.{lineIn}
 use Rattle.reading_literal.specs.Taking.{Open}
@@ -27,6 +29,15 @@ pub record Desk : Type 0 where
 
 abbrev pub desk : List ℕ → List ℕ → List ℕ → List ℕ → List ℕ → Desk
 desk n s l m o = record { names = n; starts = s; literals = l; stamps = m; slots = o }
+
+abbrev pub deskAt : Held → Held → Held → Held → Held → Desk
+deskAt n s l m o = desk (now n) (now s) (now l) (now m) (now o)
+
+abbrev pub deskBefore : Slice → Slice → Slice → Slice → Slice → Desk
+deskBefore n s l m o = deskAt (n .entry) (s .entry) (l .entry) (m .entry) (o .entry)
+
+abbrev pub deskAfter : Slice → Slice → Slice → Slice → Slice → Desk
+deskAfter n s l m o = deskAt (n .exit) (s .exit) (l .exit) (m .exit) (o .exit)
 
 -- past the full sizes nothing has changed; H homes have H + terms + 1 slots
 pub record Beyond (H : ℕ) (lim : Limits) (w₀ w : Desk) : Type 0 where

@@ -8,7 +8,7 @@ ghost use Rattle.written.specs.Reasons.{faultAt};
 ghost use Rattle.written.specs.Reading.{nextLine};
 ghost use Rattle.names.specs.Finding.{homes};
 ghost use Rattle.reading_lines.specs.declared.Next.the-variants.{Refused};
-ghost use Rattle.reading_lines.specs.Drafting.{desk, Going, TurnsBy, Blank, Drawn};
+ghost use Rattle.reading_lines.specs.Drafting.{deskAt, deskBefore, deskAfter, Going, TurnsBy, Blank, Drawn};
 ghost use Rattle.reading_lines.specs.Turns.{givenBack, afterLiteral, lineEnd, afterLine, afterText};
 use reading_literal::Taken;
 use scan::Cursor;
@@ -129,9 +129,9 @@ fn at_token(
     p: Place,
     k: Token,
 ) -> Next
-    requires { ⌜ Going homes narrow (desk (now names) (now starts) (now literals) (now stamps) (now slots)) p × (lineOf k < 2 ^ 32) ⌝ }
-    ensures { λ r. ⌜ TurnsBy homes narrow k (desk (now (names .entry)) (now (starts .entry)) (now (literals .entry)) (now (stamps .entry)) (now (slots .entry))) p
-        (desk (now (names .exit)) (now (starts .exit)) (now (literals .exit)) (now (stamps .exit)) (now (slots .exit))) r ⌝ }
+    requires { ⌜ Going homes narrow (deskAt names starts literals stamps slots) p × (lineOf k < 2 ^ 32) ⌝ }
+    ensures { λ r. ⌜ TurnsBy homes narrow k (deskBefore names starts literals stamps slots) p
+        (deskAfter names starts literals stamps slots) r ⌝ }
 {
     match k {
         Token::Literal(l) => {
@@ -175,9 +175,9 @@ pub fn draft(
     stamps: &mut [u16],
     slots: &mut [u16],
 ) -> Ended
-    requires { ⌜ Blank homes narrow (now text) (desk (now names) (now starts) (now literals) (now stamps) (now slots)) ⌝ }
-    ensures { λ r. ⌜ Drawn homes narrow (now (text .entry)) (desk (now (names .entry)) (now (starts .entry)) (now (literals .entry)) (now (stamps .entry)) (now (slots .entry)))
-        (desk (now (names .exit)) (now (starts .exit)) (now (literals .exit)) (now (stamps .exit)) (now (slots .exit))) r ⌝ }
+    requires { ⌜ Blank homes narrow (now text) (deskAt names starts literals stamps slots) ⌝ }
+    ensures { λ r. ⌜ Drawn homes narrow (now (text .entry)) (deskBefore names starts literals stamps slots)
+        (deskAfter names starts literals stamps slots) r ⌝ }
 {
     let mut c = Cursor { at: 0, line: 1 };
     let mut p = Place {

@@ -5,7 +5,7 @@ ghost use Prim.Native.Nat.{_<_};
 ghost use lib.ListN.{length, getD, set};
 ghost use Rattle.machine.specs.Moving.{view, CanPart};
 ghost use Rattle.machine.specs.Passes.{rewritten, walkPlace, restPlace, CanOpen, CanClose, countOne, CanCount, blank, counted, CanCountAll, CanRecount};
-ghost use Rattle.machine.specs.Tallies.{tallies};
+ghost use Rattle.machine.specs.Tallies.{talliesAt, talliesBefore, talliesAfter};
 
 // The place of clause c for walking.
 fn open_one(
@@ -81,10 +81,10 @@ fn count_one(
     places: &mut [u16],
     number: usize,
 ) -> usize
-    requires { ⌜ CanCount 65536 (view (now values) (now starts) (now literals)) c (tallies (now trues) (now breaks) (now list) (now places) number) ⌝ }
-    ensures { λ r. ⌜ tallies (now (trues .exit)) (now (breaks .exit)) (now (list .exit)) (now (places .exit)) r
+    requires { ⌜ CanCount 65536 (view (now values) (now starts) (now literals)) c (talliesAt trues breaks list places number) ⌝ }
+    ensures { λ r. ⌜ talliesAfter trues breaks list places r
         ≡ countOne (view (now (values .entry)) (now (starts .entry)) (now (literals .entry))) c
-        (tallies (now (trues .entry)) (now (breaks .entry)) (now (list .entry)) (now (places .entry)) number) ⌝ }
+        (talliesBefore trues breaks list places number) ⌝ }
 {
     let clause = tables::part(starts, literals, c);
     let k = tables::true_count(values, clause);
@@ -112,10 +112,10 @@ fn count_all(
     list: &mut [u16],
     places: &mut [u16],
 ) -> usize
-    requires { ⌜ CanCountAll 65536 clauses (view (now values) (now starts) (now literals)) (tallies (now trues) (now breaks) (now list) (now places) 0) ⌝ }
-    ensures { λ r. ⌜ tallies (now (trues .exit)) (now (breaks .exit)) (now (list .exit)) (now (places .exit)) r
+    requires { ⌜ CanCountAll 65536 clauses (view (now values) (now starts) (now literals)) (talliesAt trues breaks list places 0) ⌝ }
+    ensures { λ r. ⌜ talliesAfter trues breaks list places r
         ≡ counted clauses (view (now (values .entry)) (now (starts .entry)) (now (literals .entry)))
-        (tallies (now (trues .entry)) (now (breaks .entry)) (now (list .entry)) (now (places .entry)) 0) ⌝ }
+        (talliesBefore trues breaks list places 0) ⌝ }
 {
     let mut number = 0;
     let mut c = 0;
@@ -148,10 +148,10 @@ pub fn count_afresh(
     list: &mut [u16],
     places: &mut [u16],
 ) -> usize
-    requires { ⌜ CanRecount 65536 clauses terms (view (now values) (now starts) (now literals)) (tallies (now trues) (now breaks) (now list) (now places) 0) ⌝ }
-    ensures { λ r. ⌜ tallies (now (trues .exit)) (now (breaks .exit)) (now (list .exit)) (now (places .exit)) r
+    requires { ⌜ CanRecount 65536 clauses terms (view (now values) (now starts) (now literals)) (talliesAt trues breaks list places 0) ⌝ }
+    ensures { λ r. ⌜ talliesAfter trues breaks list places r
         ≡ counted clauses (view (now (values .entry)) (now (starts .entry)) (now (literals .entry)))
-        (blank clauses terms (tallies (now (trues .entry)) (now (breaks .entry)) (now (list .entry)) (now (places .entry)) 0)) ⌝ }
+        (blank clauses terms (talliesBefore trues breaks list places 0)) ⌝ }
 {
     tables::clear(breaks, terms);
     tables::clear(list, clauses);

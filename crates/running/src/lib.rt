@@ -2,7 +2,7 @@
 // `begin` asks something of its tables and of the buffer by one record, which its caller proves; `run_sheet` asks nothing.
 ghost use mathlib.Core.Path.{_≡_};
 ghost use Rattle.written.specs.Limits.{narrow};
-ghost use Rattle.written.specs.Tables.{lent};
+ghost use Rattle.written.specs.Lending.{lentAt, lentBefore, lentAfter};
 ghost use Rattle.written.specs.Program.{courseOf, ran, runRefused, runOf};
 ghost use Rattle.running_text.specs.Running.{answered, ended, CanRun};
 use running_input::Outset;
@@ -24,12 +24,9 @@ fn begin(
     places: &mut [u16],
     out: &mut [u8],
 ) -> usize
-    requires { ⌜ CanRun narrow (lent (now names) (now values) (now starts) (now literals)
-        (now «occurrence_starts») (now occurrences) (now trues) (now breaks) (now uncovered) (now places)) (now out) ⌝ }
-    ensures { λ r. ⌜ ended r (lent (now (names .exit)) (now (values .exit)) (now (starts .exit)) (now (literals .exit))
-        (now («occurrence_starts» .exit)) (now (occurrences .exit)) (now (trues .exit)) (now (breaks .exit)) (now (uncovered .exit)) (now (places .exit))) (now (out .exit))
-        ≡ ran narrow (lent (now (names .entry)) (now (values .entry)) (now (starts .entry)) (now (literals .entry))
-        (now («occurrence_starts» .entry)) (now (occurrences .entry)) (now (trues .entry)) (now (breaks .entry)) (now (uncovered .entry)) (now (places .entry))) (now (out .entry)) (courseOf narrow (now (input .entry))) ⌝ }
+    requires { ⌜ CanRun narrow (lentAt names values starts literals «occurrence_starts» occurrences trues breaks uncovered places) (now out) ⌝ }
+    ensures { λ r. ⌜ ended r (lentAfter names values starts literals «occurrence_starts» occurrences trues breaks uncovered places) (now (out .exit))
+        ≡ ran narrow (lentBefore names values starts literals «occurrence_starts» occurrences trues breaks uncovered places) (now (out .entry)) (courseOf narrow (now (input .entry))) ⌝ }
 {
     match running_input::set_out(input) {
         Outset::Long(e) => {
@@ -86,10 +83,8 @@ pub fn run_sheet(
     places: &mut [u16],
     out: &mut [u8],
 ) -> RunAnswer
-    ensures { λ r. ⌜ answered r (lent (now (names .exit)) (now (values .exit)) (now (starts .exit)) (now (literals .exit))
-        (now («occurrence_starts» .exit)) (now (occurrences .exit)) (now (trues .exit)) (now (breaks .exit)) (now (uncovered .exit)) (now (places .exit))) (now (out .exit))
-        ≡ runOf narrow (now (input .entry)) (lent (now (names .entry)) (now (values .entry)) (now (starts .entry)) (now (literals .entry))
-        (now («occurrence_starts» .entry)) (now (occurrences .entry)) (now (trues .entry)) (now (breaks .entry)) (now (uncovered .entry)) (now (places .entry))) (now (out .entry)) ⌝ }
+    ensures { λ r. ⌜ answered r (lentAfter names values starts literals «occurrence_starts» occurrences trues breaks uncovered places) (now (out .exit))
+        ≡ runOf narrow (now (input .entry)) (lentBefore names values starts literals «occurrence_starts» occurrences trues breaks uncovered places) (now (out .entry)) ⌝ }
 {
     if !agreeing::are_full(
         names,

@@ -2,7 +2,7 @@
 // A function that asks something of its tables or of the buffer does so by one record, which its caller proves.
 ghost use mathlib.Core.Path.{_≡_};
 ghost use Rattle.written.specs.Limits.{narrow};
-ghost use Rattle.written.specs.Tables.{lent};
+ghost use Rattle.written.specs.Lending.{lentAt, lentBefore, lentAfter};
 ghost use Rattle.written.specs.Agreement.{fileIn};
 ghost use Rattle.written.specs.Reading.{readText};
 ghost use Rattle.written.specs.Walk.{walkOver};
@@ -28,14 +28,10 @@ fn walk_on(
     places: &mut [u16],
     out: &mut [u8],
 ) -> usize
-    requires { ⌜ CanWalk narrow order n (lent (now names) (now values) (now starts) (now literals)
-        (now «occurrence_starts») (now occurrences) (now trues) (now breaks) (now uncovered) (now places)) (now out) ⌝ }
-    ensures { λ r. ⌜ ended r (lent (now (names .entry)) (now (values .exit)) (now (starts .entry)) (now (literals .entry))
-        (now («occurrence_starts» .entry)) (now (occurrences .entry)) (now (trues .exit)) (now (breaks .exit)) (now (uncovered .exit)) (now (places .exit))) (now (out .exit))
-        ≡ ran narrow (lent (now (names .entry)) (now (values .entry)) (now (starts .entry)) (now (literals .entry))
-        (now («occurrence_starts» .entry)) (now (occurrences .entry)) (now (trues .entry)) (now (breaks .entry)) (now (uncovered .entry)) (now (places .entry))) (now (out .entry))
-        (walked (walkOver order (fileIn n (lent (now (names .entry)) (now (values .entry)) (now (starts .entry)) (now (literals .entry))
-        (now («occurrence_starts» .entry)) (now (occurrences .entry)) (now (trues .entry)) (now (breaks .entry)) (now (uncovered .entry)) (now (places .entry)))))) ⌝ }
+    requires { ⌜ CanWalk narrow order n (lentAt names values starts literals «occurrence_starts» occurrences trues breaks uncovered places) (now out) ⌝ }
+    ensures { λ r. ⌜ ended r (lentAfter names values starts literals «occurrence_starts» occurrences trues breaks uncovered places) (now (out .exit))
+        ≡ ran narrow (lentBefore names values starts literals «occurrence_starts» occurrences trues breaks uncovered places) (now (out .entry))
+        (walked (walkOver order (fileIn n (lentBefore names values starts literals «occurrence_starts» occurrences trues breaks uncovered places)))) ⌝ }
 {
     let answer = walking::walk_tested(
         order,
@@ -70,12 +66,9 @@ pub fn read_on(
     places: &mut [u16],
     out: &mut [u8],
 ) -> usize
-    requires { ⌜ CanRead narrow order (lent (now names) (now values) (now starts) (now literals)
-        (now «occurrence_starts») (now occurrences) (now trues) (now breaks) (now uncovered) (now places)) (now out) ⌝ }
-    ensures { λ r. ⌜ ended r (lent (now (names .exit)) (now (values .exit)) (now (starts .exit)) (now (literals .exit))
-        (now («occurrence_starts» .exit)) (now (occurrences .exit)) (now (trues .exit)) (now (breaks .exit)) (now (uncovered .exit)) (now (places .exit))) (now (out .exit))
-        ≡ ran narrow (lent (now (names .entry)) (now (values .entry)) (now (starts .entry)) (now (literals .entry))
-        (now («occurrence_starts» .entry)) (now (occurrences .entry)) (now (trues .entry)) (now (breaks .entry)) (now (uncovered .entry)) (now (places .entry))) (now (out .entry)) (afterReading order (readText narrow (now (text .entry)))) ⌝ }
+    requires { ⌜ CanRead narrow order (lentAt names values starts literals «occurrence_starts» occurrences trues breaks uncovered places) (now out) ⌝ }
+    ensures { λ r. ⌜ ended r (lentAfter names values starts literals «occurrence_starts» occurrences trues breaks uncovered places) (now (out .exit))
+        ≡ ran narrow (lentBefore names values starts literals «occurrence_starts» occurrences trues breaks uncovered places) (now (out .entry)) (afterReading order (readText narrow (now (text .entry)))) ⌝ }
 {
     match reading::read(
         text,

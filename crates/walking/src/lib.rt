@@ -4,10 +4,10 @@ ghost use mathlib.Core.Path.{_≡_};
 ghost use Prim.Native.Nat.{_^_};
 ghost use lib.ListN.{length};
 ghost use Rattle.written.specs.Limits.{narrow};
-ghost use Rattle.written.specs.Tables.{lent};
+ghost use Rattle.written.specs.Lending.{lentAt, lentBefore, lentAfter};
 ghost use Rattle.laws.specs.WalkCalls.{Allowed};
-ghost use Rattle.machine.specs.Tallies.{tallies};
-ghost use Rattle.machine.specs.Moving.{fixed};
+ghost use Rattle.machine.specs.Tallies.{talliesAt, talliesBefore, talliesAfter};
+ghost use Rattle.machine.specs.Moving.{fixedAt, fixedBefore};
 ghost use Rattle.walking_steps.specs.Stepping.{stand};
 ghost use Rattle.walking.specs.Walking.{end, walksIn, CanWalks};
 ghost use Rattle.walking.specs.Made.{walkMade};
@@ -41,11 +41,11 @@ fn all_walks(
     ties: &mut [u16],
     from: At,
 ) -> Ended
-    requires { ⌜ CanWalks 65536 (length (now ties)) (2 ^ 32) (n .terms) (n .clauses) (order .walks) order (fixed (now starts) (now literals) (now «occurrence_starts») (now occurrences))
-        (stand (now values) (tallies (now trues) (now breaks) (now list) (now places) (from .number)) (from .generator .state) (from .flips)) ⌝ }
-    ensures { λ r. ⌜ end (r .found) (r .walks) (stand (now (values .exit)) (tallies (now (trues .exit)) (now (breaks .exit)) (now (list .exit)) (now (places .exit)) (r .at .number)) (r .at .generator .state) (r .at .flips))
-        ≡ walksIn order (n .terms) (n .clauses) (fixed (now (starts .entry)) (now (literals .entry)) (now («occurrence_starts» .entry)) (now (occurrences .entry))) (order .walks) 0
-        (stand (now (values .entry)) (tallies (now (trues .entry)) (now (breaks .entry)) (now (list .entry)) (now (places .entry)) (from .number)) (from .generator .state) (from .flips)) ⌝ }
+    requires { ⌜ CanWalks 65536 (length (now ties)) (2 ^ 32) (n .terms) (n .clauses) (order .walks) order (fixedAt starts literals «occurrence_starts» occurrences)
+        (stand (now values) (talliesAt trues breaks list places (from .number)) (from .generator .state) (from .flips)) ⌝ }
+    ensures { λ r. ⌜ end (r .found) (r .walks) (stand (now (values .exit)) (talliesAfter trues breaks list places (r .at .number)) (r .at .generator .state) (r .at .flips))
+        ≡ walksIn order (n .terms) (n .clauses) (fixedBefore starts literals «occurrence_starts» occurrences) (order .walks) 0
+        (stand (now (values .entry)) (talliesBefore trues breaks list places (from .number)) (from .generator .state) (from .flips)) ⌝ }
 {
     let mut at = from;
     let mut begun: u32 = 0;
@@ -96,14 +96,10 @@ pub fn walk_tested(
     uncovered: &mut [u16],
     places: &mut [u16],
 ) -> Walked
-    requires { ⌜ Allowed narrow order n (lent (now names) (now values) (now starts) (now literals)
-        (now «occurrence_starts») (now occurrences) (now trues) (now breaks) (now uncovered) (now places)) ⌝ }
-    ensures { λ r. ⌜ (r ≡ walkMade narrow order n (lent (now (names .entry)) (now (values .entry)) (now (starts .entry)) (now (literals .entry))
-        (now («occurrence_starts» .entry)) (now (occurrences .entry)) (now (trues .entry)) (now (breaks .entry)) (now (uncovered .entry)) (now (places .entry))) .answer)
-        × (lent (now (names .entry)) (now (values .exit)) (now (starts .entry)) (now (literals .entry))
-        (now («occurrence_starts» .entry)) (now (occurrences .entry)) (now (trues .exit)) (now (breaks .exit)) (now (uncovered .exit)) (now (places .exit))
-        ≡ walkMade narrow order n (lent (now (names .entry)) (now (values .entry)) (now (starts .entry)) (now (literals .entry))
-        (now («occurrence_starts» .entry)) (now (occurrences .entry)) (now (trues .entry)) (now (breaks .entry)) (now (uncovered .entry)) (now (places .entry))) .tables) ⌝ }
+    requires { ⌜ Allowed narrow order n (lentAt names values starts literals «occurrence_starts» occurrences trues breaks uncovered places) ⌝ }
+    ensures { λ r. ⌜ (r ≡ walkMade narrow order n (lentBefore names values starts literals «occurrence_starts» occurrences trues breaks uncovered places) .answer)
+        × (lentAfter names values starts literals «occurrence_starts» occurrences trues breaks uncovered places
+        ≡ walkMade narrow order n (lentBefore names values starts literals «occurrence_starts» occurrences trues breaks uncovered places) .tables) ⌝ }
 {
     let mut ties = [0u16; 2048];
     let e = all_walks(

@@ -1,7 +1,7 @@
 // The call of a walk: its tests, then the walks, or a refusal.
 ghost use mathlib.Core.Path.{_≡_};
 ghost use Rattle.written.specs.Limits.{narrow};
-ghost use Rattle.written.specs.Tables.{lent};
+ghost use Rattle.written.specs.Lending.{lentBefore, lentAfter};
 ghost use Rattle.written.specs.Orders.{inRange};
 ghost use Rattle.written.specs.Outcomes.{walkOf};
 ghost use Rattle.walking_call.specs.Tests.{testsOf};
@@ -51,8 +51,7 @@ fn verdict(
     uncovered: &[u16],
     places: &[u16],
 ) -> Tested
-    ensures { λ r. ⌜ r ≡ testsOf narrow order n (lent (now (names .entry)) (now (values .entry)) (now (starts .entry)) (now (literals .entry))
-        (now («occurrence_starts» .entry)) (now (occurrences .entry)) (now (trues .entry)) (now (breaks .entry)) (now (uncovered .entry)) (now (places .entry))) ⌝ }
+    ensures { λ r. ⌜ r ≡ testsOf narrow order n (lentBefore names values starts literals «occurrence_starts» occurrences trues breaks uncovered places) ⌝ }
 {
     if !agreeing::are_full(
         names,
@@ -104,12 +103,9 @@ pub fn walk(
     uncovered: &mut [u16],
     places: &mut [u16],
 ) -> Walked
-    ensures { λ r. ⌜ (r ≡ walkOf narrow order n (lent (now (names .entry)) (now (values .entry)) (now (starts .entry)) (now (literals .entry))
-        (now («occurrence_starts» .entry)) (now (occurrences .entry)) (now (trues .entry)) (now (breaks .entry)) (now (uncovered .entry)) (now (places .entry))) .answer)
-        × (lent (now (names .entry)) (now (values .exit)) (now (starts .entry)) (now (literals .entry))
-        (now («occurrence_starts» .entry)) (now (occurrences .entry)) (now (trues .exit)) (now (breaks .exit)) (now (uncovered .exit)) (now (places .exit))
-        ≡ walkOf narrow order n (lent (now (names .entry)) (now (values .entry)) (now (starts .entry)) (now (literals .entry))
-        (now («occurrence_starts» .entry)) (now (occurrences .entry)) (now (trues .entry)) (now (breaks .entry)) (now (uncovered .entry)) (now (places .entry))) .tables) ⌝ }
+    ensures { λ r. ⌜ (r ≡ walkOf narrow order n (lentBefore names values starts literals «occurrence_starts» occurrences trues breaks uncovered places) .answer)
+        × (lentAfter names values starts literals «occurrence_starts» occurrences trues breaks uncovered places
+        ≡ walkOf narrow order n (lentBefore names values starts literals «occurrence_starts» occurrences trues breaks uncovered places) .tables) ⌝ }
 {
     match verdict(
         order,

@@ -5,8 +5,8 @@ ghost use mathlib.Core.Path.{_≡_};
 ghost use mathlib.Core.List.{[]};
 ghost use Prim.Native.Nat.{_+_, _^_, _<_};
 ghost use lib.ListN.{length};
-ghost use Rattle.machine.specs.Tallies.{tallies};
-ghost use Rattle.machine.specs.Moving.{fixed};
+ghost use Rattle.machine.specs.Tallies.{talliesAt, talliesBefore, talliesAfter};
+ghost use Rattle.machine.specs.Moving.{fixed, fixedAt, fixedBefore};
 ghost use Rattle.walking_steps.specs.Stepping.{stand, stepIn, CanStep, startIn, CanStart, onwardsIn, walkIn};
 ghost use Rattle.walking_steps.specs.Following.{CanBegin, CanGo};
 use draw::Generator;
@@ -35,12 +35,12 @@ fn step(
     ties: &mut [u16],
     at: At,
 ) -> At
-    requires { ⌜ CanStep 65536 (length (now ties)) order (fixed (now starts) (now literals) (now «occurrence_starts») (now occurrences))
-        (stand (now values) (tallies (now trues) (now breaks) (now list) (now places) (at .number)) (at .generator .state) (at .flips))
+    requires { ⌜ CanStep 65536 (length (now ties)) order (fixedAt starts literals «occurrence_starts» occurrences)
+        (stand (now values) (talliesAt trues breaks list places (at .number)) (at .generator .state) (at .flips))
         × (at .flips + 1 < 2 ^ 32) ⌝ }
-    ensures { λ r. ⌜ stand (now (values .exit)) (tallies (now (trues .exit)) (now (breaks .exit)) (now (list .exit)) (now (places .exit)) (r .number)) (r .generator .state) (r .flips)
-        ≡ stepIn order (fixed (now (starts .entry)) (now (literals .entry)) (now («occurrence_starts» .entry)) (now (occurrences .entry)))
-        (stand (now (values .entry)) (tallies (now (trues .entry)) (now (breaks .entry)) (now (list .entry)) (now (places .entry)) (at .number)) (at .generator .state) (at .flips)) ⌝ }
+    ensures { λ r. ⌜ stand (now (values .exit)) (talliesAfter trues breaks list places (r .number)) (r .generator .state) (r .flips)
+        ≡ stepIn order (fixedBefore starts literals «occurrence_starts» occurrences)
+        (stand (now (values .entry)) (talliesBefore trues breaks list places (at .number)) (at .generator .state) (at .flips)) ⌝ }
 {
     let number = at.number;
     let g = at.generator;
@@ -82,11 +82,11 @@ fn onwards(
     ties: &mut [u16],
     from: At,
 ) -> At
-    requires { ⌜ CanGo 65536 (length (now ties)) (order .flips) (2 ^ 32) (fixed (now starts) (now literals) (now «occurrence_starts») (now occurrences))
-        (stand (now values) (tallies (now trues) (now breaks) (now list) (now places) (from .number)) (from .generator .state) (from .flips)) ⌝ }
-    ensures { λ r. ⌜ stand (now (values .exit)) (tallies (now (trues .exit)) (now (breaks .exit)) (now (list .exit)) (now (places .exit)) (r .number)) (r .generator .state) (r .flips)
-        ≡ onwardsIn order (fixed (now (starts .entry)) (now (literals .entry)) (now («occurrence_starts» .entry)) (now (occurrences .entry))) (order .flips)
-        (stand (now (values .entry)) (tallies (now (trues .entry)) (now (breaks .entry)) (now (list .entry)) (now (places .entry)) (from .number)) (from .generator .state) (from .flips)) ⌝ }
+    requires { ⌜ CanGo 65536 (length (now ties)) (order .flips) (2 ^ 32) (fixedAt starts literals «occurrence_starts» occurrences)
+        (stand (now values) (talliesAt trues breaks list places (from .number)) (from .generator .state) (from .flips)) ⌝ }
+    ensures { λ r. ⌜ stand (now (values .exit)) (talliesAfter trues breaks list places (r .number)) (r .generator .state) (r .flips)
+        ≡ onwardsIn order (fixedBefore starts literals «occurrence_starts» occurrences) (order .flips)
+        (stand (now (values .entry)) (talliesBefore trues breaks list places (from .number)) (from .generator .state) (from .flips)) ⌝ }
 {
     let last = from.flips + order.flips;
     let mut at = from;
@@ -125,10 +125,10 @@ fn start(
     from: At,
 ) -> At
     requires { ⌜ CanStart 65536 (n .terms) (n .clauses) (fixed (now starts) (now literals) [] [])
-        (stand (now values) (tallies (now trues) (now breaks) (now list) (now places) (from .number)) (from .generator .state) (from .flips)) ⌝ }
-    ensures { λ r. ⌜ stand (now (values .exit)) (tallies (now (trues .exit)) (now (breaks .exit)) (now (list .exit)) (now (places .exit)) (r .number)) (r .generator .state) (r .flips)
+        (stand (now values) (talliesAt trues breaks list places (from .number)) (from .generator .state) (from .flips)) ⌝ }
+    ensures { λ r. ⌜ stand (now (values .exit)) (talliesAfter trues breaks list places (r .number)) (r .generator .state) (r .flips)
         ≡ startIn (n .terms) (n .clauses) (fixed (now (starts .entry)) (now (literals .entry)) [] [])
-        (stand (now (values .entry)) (tallies (now (trues .entry)) (now (breaks .entry)) (now (list .entry)) (now (places .entry)) (from .number)) (from .generator .state) (from .flips)) ⌝ }
+        (stand (now (values .entry)) (talliesBefore trues breaks list places (from .number)) (from .generator .state) (from .flips)) ⌝ }
 {
     let terms = n.terms as usize;
     let g = from.generator;
@@ -167,12 +167,12 @@ pub fn one_walk(
     ties: &mut [u16],
     from: At,
 ) -> At
-    requires { ⌜ CanBegin 65536 (length (now ties)) (n .terms) (n .clauses) (fixed (now starts) (now literals) (now «occurrence_starts») (now occurrences))
-        (stand (now values) (tallies (now trues) (now breaks) (now list) (now places) (from .number)) (from .generator .state) (from .flips))
+    requires { ⌜ CanBegin 65536 (length (now ties)) (n .terms) (n .clauses) (fixedAt starts literals «occurrence_starts» occurrences)
+        (stand (now values) (talliesAt trues breaks list places (from .number)) (from .generator .state) (from .flips))
         × (from .flips + order .flips < 2 ^ 32) ⌝ }
-    ensures { λ r. ⌜ stand (now (values .exit)) (tallies (now (trues .exit)) (now (breaks .exit)) (now (list .exit)) (now (places .exit)) (r .number)) (r .generator .state) (r .flips)
-        ≡ walkIn order (n .terms) (n .clauses) (fixed (now (starts .entry)) (now (literals .entry)) (now («occurrence_starts» .entry)) (now (occurrences .entry)))
-        (stand (now (values .entry)) (tallies (now (trues .entry)) (now (breaks .entry)) (now (list .entry)) (now (places .entry)) (from .number)) (from .generator .state) (from .flips)) ⌝ }
+    ensures { λ r. ⌜ stand (now (values .exit)) (talliesAfter trues breaks list places (r .number)) (r .generator .state) (r .flips)
+        ≡ walkIn order (n .terms) (n .clauses) (fixedBefore starts literals «occurrence_starts» occurrences)
+        (stand (now (values .entry)) (talliesBefore trues breaks list places (from .number)) (from .generator .state) (from .flips)) ⌝ }
 {
     let at = start(
         n,
