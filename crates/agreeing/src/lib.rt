@@ -3,11 +3,12 @@
 ghost use mathlib.Core.Path.{_≡_};
 ghost use mathlib.Core.Bool.{true, _&&_};
 ghost use Rattle.written.specs.Limits.{narrow};
-ghost use Rattle.written.specs.Tables.{lent, areFull};
+ghost use Rattle.written.specs.Tables.{areFull};
+ghost use Rattle.written.specs.Lending.{lentAt, lentBefore};
 ghost use Rattle.written.specs.Agreement.{countsFit, agree};
 use written::Counts;
 
-// ---- full sizes and counts
+// ---- counts
 
 // The counts are within their limits, and at least one clause stands.
 fn counts_fit(n: Counts) -> bool
@@ -26,52 +27,6 @@ fn counts_fit(n: Counts) -> bool
         return false;
     }
     n.clauses > 0
-}
-
-// No lent table is shorter than its full size (reason 1).
-pub fn are_full(
-    names: &[u64],
-    values: &[u32],
-    starts: &[u16],
-    literals: &[u16],
-    occurrence_starts: &[u16],
-    occurrences: &[u16],
-    trues: &[u16],
-    breaks: &[u16],
-    uncovered: &[u16],
-    places: &[u16],
-) -> bool
-    ensures { λ r. ⌜ r ≡ areFull narrow (lent (now (names .entry)) (now (values .entry)) (now (starts .entry)) (now (literals .entry))
-        (now («occurrence_starts» .entry)) (now (occurrences .entry)) (now (trues .entry)) (now (breaks .entry)) (now (uncovered .entry)) (now (places .entry))) ⌝ }
-{
-    if names.len() < 2048 {
-        return false;
-    }
-    if values.len() < 64 {
-        return false;
-    }
-    if starts.len() < 8193 {
-        return false;
-    }
-    if literals.len() < 16384 {
-        return false;
-    }
-    if occurrence_starts.len() < 4097 {
-        return false;
-    }
-    if occurrences.len() < 16384 {
-        return false;
-    }
-    if trues.len() < 8192 {
-        return false;
-    }
-    if breaks.len() < 2048 {
-        return false;
-    }
-    if uncovered.len() < 8192 {
-        return false;
-    }
-    places.len() >= 8192
 }
 
 // ---- all points together
@@ -141,7 +96,7 @@ pub fn agrees(
     ensures { λ r. ⌜ r ≡ (areFull narrow (lentBefore names values starts literals «occurrence_starts» occurrences trues breaks uncovered places)
         && agree narrow n (lentBefore names values starts literals «occurrence_starts» occurrences trues breaks uncovered places)) ⌝ }
 {
-    if are_full(
+    if tables::are_full(
         names,
         values,
         starts,

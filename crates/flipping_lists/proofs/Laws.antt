@@ -24,8 +24,8 @@ use Rattle.machine.specs.Passes.{applied, CanApply}
 use Rattle.machine.specs.Lent.{fixedIn, movingIn}
 use Rattle.machine.proofs.Tests.{said-yes}
 use Rattle.machine.proofs.Applied.{agree-applies, agree-outcome, agree-leaves, agree-few, agree-counted}
-use Rattle.flipping_lists.specs.declared.Tested.{Tested}
-use Rattle.flipping_lists.specs.declared.Tested.the-variants.{Passed, Failed}
+use Rattle.written.specs.declared.Tested.{Tested}
+use Rattle.written.specs.declared.Tested.the-variants.{Passed, Failed}
 use Rattle.flipping_lists.specs.Tests.{testsOf}
 
 -- a list that is too long, where a was answered to whether the tables are full

@@ -10,8 +10,8 @@ use Rattle.written.specs.Lists.{all}
 use Rattle.written.specs.Limits.{Limits}
 use Rattle.written.specs.Tables.{Tables, areFull}
 use Rattle.written.specs.Agreement.{agree}
-use Rattle.flipping_lists.specs.declared.Tested.{Tested}
-use Rattle.flipping_lists.specs.declared.Tested.the-variants.{Passed, Failed}
+use Rattle.written.specs.declared.Tested.{Tested}
+use Rattle.written.specs.declared.Tested.the-variants.{Passed, Failed}
 
 -- what they come to
 unfoldable pub testsOf : Limits → List ℕ → Counts → Tables → Tested

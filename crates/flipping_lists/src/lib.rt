@@ -13,12 +13,7 @@ use written::Counts;
 use written::Flipped;
 use written::Reason;
 use written::Refusal;
-
-// What the tests of a flip list come to.
-enum Tested {
-    Passed,
-    Failed(Reason),
-}
+use written::Tested;
 
 // The whole list names known terms.
 fn known(list: &[u16], terms: u32) -> bool
@@ -51,7 +46,7 @@ fn verdict(
 ) -> Tested
     ensures { λ r. ⌜ r ≡ testsOf narrow (now (list .entry)) n (lentBefore names values starts literals «occurrence_starts» occurrences trues breaks uncovered places) ⌝ }
 {
-    if !agreeing::are_full(
+    if !tables::are_full(
         names,
         values,
         starts,

@@ -17,8 +17,8 @@ use Rattle.laws.proofs.Holding.{full-at}
 use Rattle.reading_lines.specs.declared.Ended.{Ended}
 use Rattle.reading_lines.specs.declared.Ended.the-variants as E
 use Rattle.reading_lines.specs.Drafting.{Desk, desk, Beyond, Blank, Drawn, readAll}
-use Rattle.reading_end.specs.declared.Tested.{Tested}
-use Rattle.reading_end.specs.declared.Tested.the-variants.{Passed, Failed}
+use Rattle.written.specs.declared.Tested.{Tested}
+use Rattle.written.specs.declared.Tested.the-variants.{Passed, Failed}
 use Rattle.reading_end.specs.Tests.{textTests}
 use Rattle.reading_end.specs.Clearing.{deskIn, wiped}
 use Rattle.reading.specs.Bare.{Bare}

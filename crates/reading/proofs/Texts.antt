@@ -13,8 +13,8 @@ use Rattle.written.specs.Reasons.{fault}
 use Rattle.written.specs.Reading.{refused, readText}
 use Rattle.reading_lines.specs.Drafting.{readAll}
 use Rattle.laws.proofs.Basics.{by-cases}
-use Rattle.reading_end.specs.declared.Tested.{Tested}
-use Rattle.reading_end.specs.declared.Tested.the-variants.{Passed, Failed}
+use Rattle.written.specs.declared.Tested.{Tested}
+use Rattle.written.specs.declared.Tested.the-variants.{Passed, Failed}
 use Rattle.reading_end.specs.Tests.{textTests}
 
 module _ (lim : Limits) (text : List ℕ) where

@@ -30,8 +30,8 @@ use Rattle.reading_lines.specs.declared.Place.{Place}
 use Rattle.reading_lines.specs.declared.Ended.{Ended}
 use Rattle.reading_lines.specs.declared.Ended.the-variants as E
 use Rattle.reading_lines.specs.Drafting.{Desk, Drafted, Leads, Drawn, whole, readAll}
-use Rattle.reading_end.specs.declared.Tested.{Tested}
-use Rattle.reading_end.specs.declared.Tested.the-variants.{Passed}
+use Rattle.written.specs.declared.Tested.{Tested}
+use Rattle.written.specs.declared.Tested.the-variants.{Passed}
 use Rattle.reading_end.specs.Tests.{textTests}
 use Rattle.reading_end.specs.Clearing.{deskIn, restZeroed}
 use Rattle.reading_end.specs.Finishing.{Finished, finishing, tidyClauses, tidyMoving, turned, laidOut, countedOut, countsAt, finished, CanFinish}

@@ -5,11 +5,11 @@ ghost use Rattle.written.specs.Reading.{readText};
 ghost use Rattle.written.specs.Lending.{lentAt, lentBefore, lentAfter};
 ghost use Rattle.written.specs.Outcomes.{readLeaves, readingOf};
 ghost use Rattle.reading.specs.Bare.{Bare};
-use reading_end::Tested;
 use reading_lines::Ended;
 use written::Fault;
 use written::Read;
 use written::Reason;
+use written::Tested;
 
 // A text read into full tables of 0: they are 0 again where it is refused.
 fn read_cleared(
@@ -80,7 +80,7 @@ pub fn read(
         × (lentAfter names values starts literals «occurrence_starts» occurrences trues breaks uncovered places
         ≡ readingOf narrow (now (text .entry)) (lentBefore names values starts literals «occurrence_starts» occurrences trues breaks uncovered places) .tables) ⌝ }
 {
-    if !agreeing::are_full(
+    if !tables::are_full(
         names,
         values,
         starts,

@@ -8,7 +8,7 @@ use borrow.Author.Tests.{lt-ltb, le-ltb}
 use Rattle.scan.specs.Scan.{openEnd}
 use Rattle.written.specs.declared.Reason.the-variants.{TextTooLong, TextCut}
 use Rattle.written.specs.Limits.{Limits}
-use Rattle.reading_end.specs.declared.Tested.the-variants.{Passed, Failed}
+use Rattle.written.specs.declared.Tested.the-variants.{Passed, Failed}
 use Rattle.reading_end.specs.Tests.{textTests}
 
 module _ (lim : Limits) (text : List ℕ) where

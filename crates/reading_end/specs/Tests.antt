@@ -7,8 +7,8 @@ use lib.Dec.{ltb}
 use Rattle.scan.specs.Scan.{openEnd}
 use Rattle.written.specs.declared.Reason.the-variants.{TextTooLong, TextCut}
 use Rattle.written.specs.Limits.{Limits}
-use Rattle.reading_end.specs.declared.Tested.{Tested}
-use Rattle.reading_end.specs.declared.Tested.the-variants.{Passed, Failed}
+use Rattle.written.specs.declared.Tested.{Tested}
+use Rattle.written.specs.declared.Tested.the-variants.{Passed, Failed}
 
 -- what they come to
 unfoldable pub textTests : Limits → List ℕ → Tested

@@ -13,12 +13,7 @@ ghost use Rattle.reading_end.specs.Finishing.{finishing, finished, CanFi
 use reading_lines::Place;
 use written::Counts;
 use written::Reason;
-
-// What the tests of a text as a whole come to.
-pub enum Tested {
-    Passed,
-    Failed(Reason),
-}
+use written::Tested;
 
 // The tests of a text as a whole, in their order: 2, 3.
 pub fn verdict(text: &[u8]) -> Tested

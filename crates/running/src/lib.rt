@@ -86,7 +86,7 @@ pub fn run_sheet(
     ensures { λ r. ⌜ answered r (lentAfter names values starts literals «occurrence_starts» occurrences trues breaks uncovered places) (now (out .exit))
         ≡ runOf narrow (now (input .entry)) (lentBefore names values starts literals «occurrence_starts» occurrences trues breaks uncovered places) (now (out .entry)) ⌝ }
 {
-    if !agreeing::are_full(
+    if !tables::are_full(
         names,
         values,
         starts,

@@ -3,7 +3,7 @@ use mathlib.Core.Path.{refl, ap}
 use Rattle.settled.specs.Outcomes.{Public}
 use Rattle.settled.proofs.Facts.{meet, same, both, ten, five}
 use Rattle.written.specs.Program.{Ran}
-use Rattle.agreeing.proofs.are_full as are-full
+use Rattle.tables.proofs.are_full as are-full
 use Rattle.agreeing.proofs.agrees as agrees
 use Rattle.reading.proofs.read as read
 use Rattle.flipping_lists.proofs.apply as apply

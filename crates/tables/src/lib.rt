@@ -1,13 +1,63 @@
-// How a clause and a literal are read from the lent tables, and what is done to a table in one place or from its start on.
+// The lent tables: whether they are full, how a clause and a literal are read from them, and what is done to one in one place or from its start on.
 // A function that another crate of the library calls may ask something of its tables, by one record, which its caller proves; none is exported.
 ghost use mathlib.Core.Path.{_≡_};
-ghost use Rattle.written.specs.Agreement.{partOf};
 ghost use Rattle.written.specs.Lists.{total};
+ghost use Rattle.written.specs.Limits.{narrow};
+ghost use Rattle.written.specs.Tables.{areFull};
+ghost use Rattle.written.specs.Lending.{lentBefore};
+ghost use Rattle.written.specs.Agreement.{partOf};
 ghost use Rattle.machine.specs.Literals.{valueIn, termIf, xorTrue};
 ghost use Rattle.machine.specs.Moving.{CanPart};
 ghost use Rattle.machine.specs.Passes.{zeroed};
 ghost use Rattle.machine.specs.Tallies.{raised, hitOf, CanRaise};
 ghost use Rattle.machine.specs.Uncovered.{uncovered, enters, CanEnter};
+
+// ---- full sizes
+
+// No lent table is shorter than its full size (reason 1).
+pub fn are_full(
+    names: &[u64],
+    values: &[u32],
+    starts: &[u16],
+    literals: &[u16],
+    occurrence_starts: &[u16],
+    occurrences: &[u16],
+    trues: &[u16],
+    breaks: &[u16],
+    uncovered: &[u16],
+    places: &[u16],
+) -> bool
+    ensures { λ r. ⌜ r ≡ areFull narrow (lentBefore names values starts literals «occurrence_starts» occurrences trues breaks uncovered places) ⌝ }
+{
+    if names.len() < 2048 {
+        return false;
+    }
+    if values.len() < 64 {
+        return false;
+    }
+    if starts.len() < 8193 {
+        return false;
+    }
+    if literals.len() < 16384 {
+        return false;
+    }
+    if occurrence_starts.len() < 4097 {
+        return false;
+    }
+    if occurrences.len() < 16384 {
+        return false;
+    }
+    if trues.len() < 8192 {
+        return false;
+    }
+    if breaks.len() < 2048 {
+        return false;
+    }
+    if uncovered.len() < 8192 {
+        return false;
+    }
+    places.len() >= 8192
+}
 
 // ---- reading a clause
 

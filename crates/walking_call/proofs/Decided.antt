@@ -14,8 +14,8 @@ use Rattle.laws.specs.WalkCalls.{Allowed, Fails}
 use Rattle.laws.specs.WalkCalls.Fails.{short, outside, disagree}
 use Rattle.laws.proofs.Basics.{by-cases}
 use Rattle.laws.proofs.WalkCalls.{failed, passed}
-use Rattle.walking_call.specs.declared.Tested.{Tested}
-use Rattle.walking_call.specs.declared.Tested.the-variants.{Passed, Failed}
+use Rattle.written.specs.declared.Tested.{Tested}
+use Rattle.written.specs.declared.Tested.the-variants.{Passed, Failed}
 use Rattle.walking.specs.Made.{walkMade}
 use Rattle.walking_call.specs.Tests.{testsOf}
 

@@ -7,8 +7,8 @@ use Rattle.written.specs.Limits.{Limits}
 use Rattle.written.specs.Tables.{Tables, areFull}
 use Rattle.written.specs.Agreement.{agree}
 use Rattle.written.specs.Orders.{inRange}
-use Rattle.walking_call.specs.declared.Tested.{Tested}
-use Rattle.walking_call.specs.declared.Tested.the-variants.{Passed, Failed}
+use Rattle.written.specs.declared.Tested.{Tested}
+use Rattle.written.specs.declared.Tested.the-variants.{Passed, Failed}
 
 -- what they come to
 unfoldable pub testsOf : Limits → Order → Counts → Tables → Tested

@@ -9,13 +9,8 @@ use written::Counts;
 use written::Order;
 use written::Reason;
 use written::Refusal;
+use written::Tested;
 use written::Walked;
-
-// What the tests of a walk come to.
-enum Tested {
-    Passed,
-    Failed(Reason),
-}
 
 // Every number of the order is in its range.
 fn in_range(order: Order) -> bool
@@ -53,7 +48,7 @@ fn verdict(
 ) -> Tested
     ensures { λ r. ⌜ r ≡ testsOf narrow order n (lentBefore names values starts literals «occurrence_starts» occurrences trues breaks uncovered places) ⌝ }
 {
-    if !agreeing::are_full(
+    if !tables::are_full(
         names,
         values,
         starts,

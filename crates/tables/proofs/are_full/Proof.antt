@@ -1,10 +1,10 @@
--- `agreeing::are_full` meets its contract: each way out has the tests that lead there. Assumes nothing.
+-- `tables::are_full` meets its contract: each way out has the tests that lead there. Assumes nothing.
 use mathlib.Core.Path.{refl}
 use borrow.Author.Tests.{le-leb, lt-leb}
 use Rattle.words.specs.Words.{wordCount}
 use Rattle.written.specs.Tables.{every, each, sizes, fullSizes, areFull}
-use Rattle.agreeing.proofs.are_full.Statement.{statement}
-use Rattle.agreeing.proofs.are_full.Tie as tie
+use Rattle.tables.proofs.are_full.Statement.{statement}
+use Rattle.tables.proofs.are_full.Tie as tie
 
 returns : tie.Need-returns
 unfolding areFull every each fullSizes sizes wordCount
