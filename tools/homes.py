@@ -1,10 +1,14 @@
 #!/usr/bin/env python3
-"""homes.py HOMES...: how many slots a new name meets, in the mean, where a name's home is its remainder by HOMES and the search goes upwards.
-One row for each number of homes: the mean over families of 2,048 names, the worst family, and each family's own mean."""
+"""homes.py [NAMES:HOMES...]: how many slots a new name meets, in the mean, for so many names in so many homes, the search going upwards.
+For each pair two rows, of the home that the code takes and of the plain remainder: the mean over families of names, the worst family, and each family's own mean."""
 import random
 import sys
+from itertools import count as numbers_from
 
-COUNT = 2048
+HOMES = {
+    "name % 1000003 * 617 % homes": lambda name, homes: name % 1000003 * 617 % homes,
+    "name % homes": lambda name, homes: name % homes,
+}
 
 
 def in_letters(number):
@@ -20,41 +24,53 @@ def benchmark_name(term):
     return "".join(chr(33 + (term % 93 if at == 0 else term // 93 * at % 93)) for at in range(length))
 
 
-def random_words(length):
+def random_words(many, length):
     draw = random.Random(1)
     words = set()
-    while len(words) < COUNT:
+    while len(words) < many:
         words.add("".join(draw.choice("abcdefghijklmnopqrstuvwxyz") for _ in range(length)))
     return sorted(words)
 
 
-def families():
-    numbers = range(COUNT)
-    pairs = [(n // 46, n % 46) for n in numbers]
-    return {
+def least_side(many, power):
+    """The least number whose power is not below `many`."""
+    return next(side for side in numbers_from(1) if side**power >= many)
+
+
+def in_bytes(number, length):
+    """A number as so many bytes of a name, the first fastest."""
+    return "".join(chr(33 + number // 93**at % 93) for at in range(length))
+
+
+def families(many):
+    numbers = range(many)
+    side, edge, length = least_side(many, 2), least_side(many, 3), 2 if many <= 93**2 else 3
+    pairs = [(n // side, n % side) for n in numbers]
+    every = {
         "1": [f"{n + 1}" for n in numbers],
         "x1": [f"x{n}" for n in numbers],
-        "t0001": [f"t{n:04}" for n in numbers],
+        "t00001": [f"t{n:05}" for n in numbers],
         "0000001": [f"{n:07}" for n in numbers],
         "7ff": [f"{n:x}" for n in numbers],
-        "a1-h255": [f"{'abcdefgh'[n // 256]}{n % 256}" for n in numbers],
+        "a1-h255": [f"{in_letters(n // 256)}{n % 256}" for n in numbers],
         "3.14": [f"{a}.{b}" for a, b in pairs],
-        "03.14": [f"{a:02}.{b:02}" for a, b in pairs],
+        "003.014": [f"{a:03}.{b:03}" for a, b in pairs],
         "v3_14": [f"v{a}_{b}" for a, b in pairs],
-        "1.2.3": [f"{n // 169}.{n // 13 % 13}.{n % 13}" for n in numbers],
+        "1.2.3": [f"{n // edge**2}.{n // edge % edge}.{n % edge}" for n in numbers],
         "a-bzz": [in_letters(n) for n in numbers],
-        "three letters": random_words(3),
-        "eight letters": random_words(8),
-        "two bytes, first fastest": [chr(33 + n % 93) + chr(33 + n // 93) for n in numbers],
-        "two bytes, second fastest": [chr(33 + n // 93) + chr(33 + n % 93) for n in numbers],
+        "four letters": random_words(many, 4),
+        "eight letters": random_words(many, 8),
+        "few bytes, first fastest": [in_bytes(n, length) for n in numbers],
+        "few bytes, last fastest": [in_bytes(n, length)[::-1] for n in numbers],
         "the benchmark's": [benchmark_name(n) for n in numbers],
     }
+    return {family: names for family, names in every.items() if len(set(names)) == many and max(map(len, names)) <= 8}
 
 
-def slots_met(names, homes):
+def slots_met(names, home, homes):
     taken, met = set(), 0
     for name in names:
-        slot = int.from_bytes(name.encode(), "little") % homes
+        slot = home(int.from_bytes(name.encode(), "little"), homes)
         met += 1
         while slot in taken:
             slot, met = slot + 1, met + 1
@@ -63,10 +79,11 @@ def slots_met(names, homes):
 
 
 def main():
-    for homes in map(int, sys.argv[1:] or ["6067"]):
-        means = {family: slots_met(names, homes) for family, names in families().items()}
-        print(f"{homes}: mean {sum(means.values()) / len(means):.2f}, worst {max(means.values()):.2f}")
-        print("   " + ", ".join(f"{family} {mean:.2f}" for family, mean in means.items()))
+    for many, homes in (map(int, pair.split(":")) for pair in sys.argv[1:] or ["2048:6067"]):
+        for words, home in HOMES.items():
+            means = {family: slots_met(names, home, homes) for family, names in families(many).items()}
+            print(f"{many} names, {homes} homes, {words}: mean {sum(means.values()) / len(means):.2f}, worst {max(means.values()):.2f}")
+            print("   " + ", ".join(f"{family} {mean:.2f}" for family, mean in means.items()))
 
 
 if __name__ == "__main__":

@@ -117,7 +117,7 @@ fn starts_agree(n: Counts, starts: &[u16]) -> bool
         }
         c += 1;
     }
-    (starts[clauses] as u32) == n.literals
+    (starts[clauses] as usize) == (n.literals as usize)
 }
 
 // Each literal's term is one of the terms and does not have the mark; it then gets it.

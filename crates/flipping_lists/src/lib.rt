@@ -21,7 +21,7 @@ fn known(list: &[u16], terms: u32) -> bool
 {
     let mut i = 0;
     while i < list.len() {
-        if (list[i] as u32) >= terms {
+        if (list[i] as usize) >= (terms as usize) {
             return false;
         }
         i += 1;

@@ -2,7 +2,7 @@
 use mathlib.Core.Path.{_≡_, refl, ap, sym, _∙_}
 use mathlib.Core.Bool.{true, false}
 use mathlib.Core.List.{List, [], _∷_, _++_}
-use Prim.Native.Nat.{ℕ, _+_, _-_, _%_, _≤_, _<_}
+use Prim.Native.Nat.{ℕ, _+_, _-_, _≤_, _<_}
 use native.Mathlib.Nat.{mod-lt}
 use native.Mathlib.Numerals.{add-one}
 use native.Mathlib.Omega.{arith}
@@ -12,7 +12,7 @@ use Rattle.written.specs.Lists.{has, placeOf, differ}
 use Rattle.laws.proofs.Basics.{by-cases, by-eq, by-lt}
 use Rattle.laws.proofs.Membership.{has-getD, placeOf-lt, placeOf-getD, differ-snoc}
 use Rattle.laws.proofs.Times.{differ-times, placeOf-once}
-use Rattle.machine.specs.Slots.{Reached, Indexed, Vacant}
+use Rattle.machine.specs.Slots.{homeOf, Reached, Indexed, Vacant}
 
 -- ---- names that differ
 
@@ -35,12 +35,16 @@ differ-fails ys i l h =
 
 -- ---- a search
 
+pub home-low : (H name : ℕ) → 0 < H → homeOf H name < H
+unfolding homeOf
+home-low H name some = mod-lt _ some
+
 -- the slots from the name's home to s are in use, by other names
 pub record Searched (H : ℕ) (known slots : List ℕ) (name s : ℕ) : Type 0 where
-  pub from : name % H ≤ s
+  pub from : homeOf H name ≤ s
   pub upto : s ≤ H + length known
-  pub used : (i : ℕ) → name % H ≤ i → i < s → getD slots i 0 ≡ 0 → ⊥
-  pub other : (i : ℕ) → name % H ≤ i → i < s → getD known (getD slots i 0 - 1) 0 ≡ name → ⊥
+  pub used : (i : ℕ) → homeOf H name ≤ i → i < s → getD slots i 0 ≡ 0 → ⊥
+  pub other : (i : ℕ) → homeOf H name ≤ i → i < s → getD known (getD slots i 0 - 1) 0 ≡ name → ⊥
 
 -- the known names are the first of a table
 module _ (H L : ℕ) (names : List ℕ) (terms : ℕ) (slots : List ℕ) (fits : terms ≤ length names) (ix : Indexed H L (take terms names) slots) (name : ℕ) where
@@ -50,11 +54,11 @@ module _ (H L : ℕ) (names : List ℕ) (terms : ℕ) (slots : List ℕ) (fits :
   count : length known ≡ terms
   count = length-take-le terms names fits
 
-  pub search-begun : Searched H known slots name (name % H)
+  pub search-begun : Searched H known slots name (homeOf H name)
   search-begun =
       record {
         from = omega arith;
-        upto = omega (arith, mod-lt name (ix .some));
+        upto = omega (arith, home-low H name (ix .some));
         used = λ i l m. absurd (omega arith);
         other = λ i l m. absurd (omega arith);
       }
@@ -75,12 +79,12 @@ module _ (H L : ℕ) (names : List ℕ) (terms : ℕ) (slots : List ℕ) (fits :
         unknown : (k : ℕ) → k < length known → getD known k 0 ≡ name → ⊥
         unknown k l e =
             let p = ix .reached k l in
-            let from : name % H ≤ p .at = rw (ap (λ (x : ℕ). x % H) e) at (p .from) in
+            let from : homeOf H name ≤ p .at = rw (ap (λ (x : ℕ). homeOf H x) e) at (p .from) in
             by-lt (p .at) s
             (λ lt. h .other (p .at) from lt (ap (λ (x : ℕ). getD known (x - 1) 0) (p .here) ∙ (ap (λ (x : ℕ). getD known x 0) (omega arith) ∙ e)))
             (λ ge. by-eq (p .at) s
             (λ q. omega (arith, p .here, z, ap (λ (x : ℕ). getD slots x 0) q))
-            (λ q. p .run s (rw (ap (λ (x : ℕ). x % H) e) (h .from)) (omega arith) z))
+            (λ q. p .run s (rw (ap (λ (x : ℕ). homeOf H x) e) (h .from)) (omega arith) z))
 
     -- the slot holds a term
     module _ (full : getD slots s 0 ≡ 0 → ⊥) where

@@ -131,10 +131,11 @@ pub fn finish(
         places,
     );
     recounts::close_all(clauses, trues, places);
+    let left = number as u32;
     Counts {
         terms: n.terms,
         clauses: n.clauses,
         literals: n.literals,
-        uncovered: number as u32,
+        uncovered: left,
     }
 }

@@ -11,7 +11,7 @@ ghost use Rattle.reading_literal.specs.Line.{lineIn, standsIn, Stamped};
 ghost use Rattle.reading_literal.specs.Taking.{Open, Took};
 
 // Whether a line has a literal already, or its opposite.
-enum Stands {
+pub enum Stands {
     Not,
     Same,
     Opposite,

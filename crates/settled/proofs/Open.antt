@@ -13,7 +13,7 @@ use Rattle.laws.proofs.Basics.{by-lt}
 use Rattle.machine.specs.Slots.{Vacant}
 use Rattle.names.specs.declared.Found.{Found}
 use Rattle.names.specs.declared.Found.the-variants.{At, New}
-use Rattle.names.specs.Finding.{Finds}
+use Rattle.names.specs.Finding.{homes, Finds}
 use Rattle.walking_choice.specs.declared.Picked.{Picked}
 use Rattle.walking_steps.specs.declared.At.{At as Standing}
 use Rattle.reading_literal.specs.declared.Taken.{Taken}
@@ -31,11 +31,11 @@ one-slot : {H : ℕ} {known slots : List ℕ} {name s u : ℕ} → Vacant H know
 one-slot {s = s} {u = u} v w =
     by-lt s u (λ h. absurd (w .run s (v .from) h (v .empty))) (λ h. by-lt u s (λ k. absurd (v .run u (w .from) k (w .empty))) (λ k. omega arith))
 
-one-found : (known slots : List ℕ) (name : ℕ) (r s : Found) → Finds known slots name r → Finds known slots name s → r ≡ s
-one-found known slots name (At t) (At u) p q = ap At (meet (p .1) (q .1))
-one-found known slots name (At t) (New u) p q = absurd (true≢false (sym (p .0) ∙ q .0))
-one-found known slots name (New s) (At u) p q = absurd (true≢false (sym (q .0) ∙ p .0))
-one-found known slots name (New s) (New u) p q = ap New (one-slot (p .1) (q .1))
+one-found : (H : ℕ) (known slots : List ℕ) (name : ℕ) (r s : Found) → Finds H known slots name r → Finds H known slots name s → r ≡ s
+one-found H known slots name (At t) (At u) p q = ap At (meet (p .1) (q .1))
+one-found H known slots name (At t) (New u) p q = absurd (true≢false (sym (p .0) ∙ q .0))
+one-found H known slots name (New s) (At u) p q = absurd (true≢false (sym (q .0) ∙ p .0))
+one-found H known slots name (New s) (New u) p q = ap New (one-slot (p .1) (q .1))
 
 -- a literal that is taken has one fate, and leaves the names and the literals that go with it
 one-taken : {H : ℕ} {lim : Limits} {names : List ℕ} {terms : ℕ} {literals : List ℕ} {from held : ℕ} {stamps slots : List ℕ} {name : ℕ} {negated : Bool}
@@ -50,7 +50,7 @@ one-taken {names = names} {terms = terms} {literals = literals} {held = held} {n
     )
 
 pub find-settled : Inner find.ended (λ M. find.clauses)
-find-settled M 𝓤 H A mem run κs a g = record { one-outcome = λ x y. all-three 𝓤 (λ r p q. same (one-found (take (a .1 .1 .0) (now (a .0))) (now (a .1 .0)) (a .1 .1 .1 .0) (x .result) (y .result) p q) refl) }
+find-settled M 𝓤 H A mem run κs a g = record { one-outcome = λ x y. all-three 𝓤 (λ r p q. same (one-found homes (take (a .1 .1 .0) (now (a .0))) (now (a .1 .0)) (a .1 .1 .1 .0) (x .result) (y .result) p q) refl) }
 
 -- what the part shows, not where it lies
 pub part-settled : InnerSeen part.ended (List ℕ) (λ κs a x. now (x .result)) (λ M. part.clauses)

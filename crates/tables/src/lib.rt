@@ -65,7 +65,7 @@ pub fn are_full(
 fn literal_value(words: &[u32], l: u16) -> u32
     ensures { λ r. ⌜ r ≡ valueIn (now (words .entry)) l ⌝ }
 {
-    (words::value(words, (l / 2) as usize) + ((l % 2) as u32)) % 2
+    (words::value(words, (l / 2) as usize) + ((l % 2) as usize as u32)) % 2
 }
 
 // How many literals of a clause are true.

@@ -123,6 +123,7 @@ pub fn walk_tested(
     );
     recounts::close_all(n.clauses as usize, trues, places);
     let at = e.at;
+    let number = at.number as u32;
     let tour = Tour {
         walks: e.walks,
         flips: at.flips,
@@ -130,7 +131,7 @@ pub fn walk_tested(
             terms: n.terms,
             clauses: n.clauses,
             literals: n.literals,
-            uncovered: at.number as u32,
+            uncovered: number,
         },
     };
     if e.found {

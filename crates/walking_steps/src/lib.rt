@@ -60,10 +60,11 @@ fn step(
         number,
         (l.entry / 2) as usize,
     );
+    let made = at.flips + 1;
     At {
         number: left,
         generator: next,
-        flips: at.flips + 1,
+        flips: made,
     }
 }
 

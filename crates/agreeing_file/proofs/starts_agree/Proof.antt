@@ -52,4 +52,4 @@ starts-agree-spec =
     tie.close
     (tie.spec Inv-loop μ-loop (λ c. search needs) returns (λ c. search needs) (λ c. (omega arith, c .before .if1 .left, refl)) (λ c. search needs)
     (λ c. search needs) (λ c. search needs) (λ c. search needs) (λ c. search needs) returns-2 (λ c. search needs) (λ c. search needs) loop-again
-    (λ c. search needs) (λ c. search needs) (λ c. omega (arith, c .shared-slice-known4 .given (c .before .before .before .before .before .before .args .n .clauses))) returns-3)
+    (λ c. search needs) (λ c. search needs) (λ c. omega (arith, c .shared-slice-known4 .given (c .before .before .before .before .before .before .args .n .clauses))) (λ c. search needs) returns-3)

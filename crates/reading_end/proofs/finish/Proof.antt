@@ -30,8 +30,8 @@ close-all-requires c κs =
     let rest = clear .before .before .before .before in
     can-close _ _ _ _ _ (rest .before .before .before .before .before .before .before .before .before .before .before .pre) (rest .clear-rest .ensures) (clear .clear .ensures) (cleared .clear2 .ensures) (turned .turn-round .ensures) (counted .count-afresh .ensures)
 
-cast-t24-2 : tie.Need-cast-t24-2
-cast-t24-2 c =
+cast-left : tie.Need-cast-left
+cast-left c =
     let counted = c .before .before .before .before .before .before .before .before .before .before .before .before .before in
     let turned = counted .before .before .before .before .before .before .before .before .before .before .before .before in
     let cleared = turned .before .before .before .before .before .before .before .before in
@@ -53,7 +53,7 @@ pub finish-spec : {M : Type 1} → statement M
 finish-spec =
     tie.close
     (tie.spec (λ c κs. search needs) (λ c κs. search needs) (λ c κs. search needs) (λ c. search needs) (λ c. search needs) (λ c. search needs)
-    turn-round-requires count-afresh-requires close-all-requires cast-t24-2
+    turn-round-requires count-afresh-requires close-all-requires cast-left
     (λ c. c .before .before .before .before .before .before .before .before .before .before .before .before .before .before .before .before .before .before .before .before .before .before .before .before .before .before .before .before .before .before .before .before .before .before .before .before .before .before .before .before .literals .given)
     (λ c. c .before .before .before .before .before .before .before .before .before .before .before .before .before .before .before .before .before .before .before .before .before .before .before .before .occurrence-starts .given)
     (λ c. c .before .before .before .before .before .before .before .before .before .before .before .before .before .before .before .before .before .before .before .before .before .before .occurrences .given)

@@ -17,4 +17,4 @@ unfolding valueIn termOf
 returns c = ap (λ (k : ℕ). (k + c .before .before .args .l % 2) % 2) (c .value .ensures)
 
 pub literal-value-spec : {M : Type 1} → statement M
-literal-value-spec = tie.close (tie.spec (λ c. search needs) (λ c κs. search needs) (λ c. search needs) add-result returns)
+literal-value-spec = tie.close (tie.spec (λ c. search needs) (λ c κs. search needs) (λ c. search needs) (λ c. search needs) add-result returns)

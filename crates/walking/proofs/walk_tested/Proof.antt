@@ -14,8 +14,8 @@ all-walks-requires c κs = can-walk narrow _ _ _ (c .before .before .before .bef
 close-all-requires : tie.Need-close-all-requires
 close-all-requires c κs = can-close narrow _ _ _ (c .before .before .before .before .before .before .before .before .before .before .before .before .before .before .before .before .before .before .before .before .before .before .before .before .before .before .before .before .before .before .before .before .before .pre) (c .before .before .before .before .before .before .before .before .before .before .before .before .before .before .before .new .ensures) 65536 (omega arith) (omega arith) (omega arith) (c .before .before .before .before .before .before .before .before .before .before .before .before .before .before .all-walks .ensures)
 
-cast-t37 : tie.Need-cast-t37
-cast-t37 c = omega (arith, number-low narrow _ _ _ (c .before .before .before .before .before .before .before .before .before .before .before .before .before .before .before .before .before .before .before .before .before .before .before .before .before .before .before .before .before .before .before .before .before .before .before .before .before .before .pre) (c .before .before .before .before .before .before .before .before .before .before .before .before .before .before .before .before .before .before .before .before .new .ensures) 65536 (omega arith) (omega arith) (omega arith) (c .before .before .before .before .before .before .before .before .before .before .before .before .before .before .before .before .before .before .before .all-walks .ensures))
+cast-number : tie.Need-cast-number
+cast-number c = omega (arith, number-low narrow _ _ _ (c .before .before .before .before .before .before .before .before .before .before .before .before .before .before .before .before .before .before .before .before .before .before .before .before .before .before .before .before .before .before .before .before .before .before .before .before .before .before .pre) (c .before .before .before .before .before .before .before .before .before .before .before .before .before .before .before .before .before .before .before .before .new .ensures) 65536 (omega arith) (omega arith) (omega arith) (c .before .before .before .before .before .before .before .before .before .before .before .before .before .before .before .before .before .before .before .all-walks .ensures))
 
 returns : tie.Need-returns
 returns c =
@@ -34,7 +34,7 @@ returns-2 c =
 pub walk-tested-spec : {M : Type 1} → statement M
 walk-tested-spec =
     tie.close
-    (tie.spec (λ c. refl) (λ c. search needs) (λ c κs. search needs) all-walks-requires (λ c. search needs) close-all-requires cast-t37
+    (tie.spec (λ c. refl) (λ c. search needs) (λ c κs. search needs) all-walks-requires (λ c. search needs) close-all-requires cast-number
     (λ c. c .before .before .before .before .before .before .before .before .before .before .before .before .before .before .before .before .before
     .before .before .values .given)
     (λ c. c .before .before .before .before .before .before .before .before .before .before .before .before .before .before .before .before

@@ -22,7 +22,7 @@ literal-in-requires c κs = can-pick _ _ _ _ _ (c .before .before .before .befor
 flip-term-requires : tie.Need-flip-term-requires
 flip-term-requires c κs = can-flip _ _ _ _ _ (c .before .before .before .before .before .before .before .before .before .before .before .before .before .before .before .before .before .before .before .before .before .before .before .before .before .before .before .before .pre .0) (c .before .before .before .before .before .before .before .before .before .before .before .before .before .before .before .chosen-from .ensures) (c .before .before .before .before .before .before .before .before .before .before .before .before .part .ensures) (c .before .before .before .before .before .before .before .before .before .literal-in .ensures)
 
-add-flips : tie.Need-add-t39
+add-flips : tie.Need-add-made
 add-flips c = omega (arith, c .before .before .before .before .before .before .before .before .before .before .before .before .before .before .before .before .before .before .before .before .before .before .before .before .before .before .before .before .before .before .before .before .before .before .before .before .before .before .before .before .pre .1)
 
 returns : tie.Need-returns
