@@ -1,1 +1,3 @@
--- The functions' proofs stand beside their names; the laws they cite are in machine.
+-- The functions' proofs stand beside their names; below them the laws that only they cite. What others cite too is in machine.
+pub mod ListTested
+pub mod CountsTested

@@ -1,1 +1,7 @@
--- The functions' proofs stand beside their names; the laws they cite are in machine.
+-- The functions' proofs stand beside their names; below them the laws that only they cite. What others cite too is in machine.
+pub mod Passing
+pub mod Marks
+pub mod Names
+pub mod Matching
+pub mod Left
+pub mod Matched

@@ -1,2 +1,5 @@
--- The functions' proofs stand beside their names; most laws they cite are in machine.
+-- The functions' proofs stand beside their names; below them the laws that only they cite. What others cite too is in machine.
 pub mod Laws
+pub mod FlipLists
+pub mod Outcome
+pub mod Applied

@@ -15,7 +15,6 @@ pub mod Flipped
 pub mod Counts
 pub mod Standings
 pub mod Law
-pub mod FlipLists
 -- loops and calls
 pub mod Runs
 pub mod Scanned
@@ -32,32 +31,15 @@ pub mod Laid
 pub mod Held
 pub mod Settled
 pub mod Tallied
-pub mod Outcome
 -- judging
-pub mod Tests
-pub mod Passing
 pub mod Cuts
-pub mod Marks
-pub mod Names
 pub mod Slots
 pub mod Occurrences
-pub mod Matching
-pub mod Left
-pub mod Matched
 pub mod Tested
 pub mod Ones
-pub mod ListTested
-pub mod CountsTested
 pub mod File
 pub mod Rest
-pub mod Judged
 -- turning round
 pub mod Cleared
-pub mod Tallying
-pub mod Summing
-pub mod Filling
-pub mod Rounds
-pub mod Rounding
 -- tables that agree, and a flip list on them
 pub mod Agreed
-pub mod Applied

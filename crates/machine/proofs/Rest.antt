@@ -20,7 +20,7 @@ use Rattle.laws.proofs.All.{same-refl, all-take, all-drop}
 use Rattle.laws.proofs.Lists.{listFrom-length, getD-listOf, listOf-is, drop-take}
 use Rattle.laws.proofs.Values.{word-at, word-lt, words-back, values-bits}
 use Rattle.machine.specs.Judging.{restRight, spareRight, valuesIn}
-use Rattle.machine.proofs.Tests.{all-places, all-next}
+use Rattle.laws.proofs.Tests.{all-places, all-next}
 
 -- entries joined by `or` are 0 exactly if each is
 or-none : (a b : ℕ) → eqb (bitOr a b) 0 ≡ (eqb a 0 && eqb b 0)

@@ -15,7 +15,7 @@ use Rattle.written.specs.Outcomes.{Leaves, readLeaves, readingOf}
 use Rattle.laws.proofs.Holding.{cleared-full, cleared-again, holding-cleared}
 use Rattle.laws.proofs.Readings.{reading-valid}
 use Rattle.laws.proofs.ReadCalls.{short-reading, full-reading}
-use Rattle.machine.proofs.Tests.{said-no, said-yes}
+use Rattle.laws.proofs.Tests.{said-no, said-yes}
 use Rattle.reading_lines.specs.Drafting.{Desk}
 use Rattle.reading_end.specs.Clearing.{blanked, deskIn, wiped, Others, othersIn, wipedOthers}
 use Rattle.reading_end.proofs.Cleared.{both-wiped, blanked-is}

@@ -17,7 +17,7 @@ use Rattle.written.specs.Tables.{Tables, lent, areFull}
 use Rattle.written.specs.Printed.{refusal}
 use Rattle.written.specs.Program.{Ran, unbegun, unread, afterReading, courseOf, said, reportSize, tablesAfter, runRefused, ran, runOf}
 use Rattle.laws.proofs.RunCalls.{run-short, run-ran}
-use Rattle.machine.proofs.Tests.{said-no, said-yes}
+use Rattle.laws.proofs.Tests.{said-no, said-yes}
 use Rattle.running_input.specs.declared.Outset.{Outset}
 use Rattle.running_input.specs.declared.Outset.the-variants.{Long, Refused, Begins}
 use Rattle.running_input.specs.Outsets.{outsetOf}

@@ -15,7 +15,7 @@ use Rattle.written.specs.Orders.{Range, within}
 use Rattle.written.specs.Sheet.{isNumber, valueOfDigits, hasForm, numberAfter, lineLength}
 use Rattle.laws.proofs.Basics.{by-cases, both-first, both-second}
 use Rattle.laws.proofs.Lists.{drop-take}
-use Rattle.machine.proofs.Tests.{not-both}
+use Rattle.laws.proofs.Tests.{not-both}
 use Rattle.running_sheet.specs.declared.Verdict.the-variants.{Taken, Faulty}
 use Rattle.running_sheet.specs.Lines.{range, lineOf}
 use Rattle.running_sheet.proofs.Digits.{some-digits, few-digits}

@@ -4,7 +4,7 @@ use borrow.Author.Needs.{needs}
 use Rattle.written.specs.Limits.{narrow}
 use Rattle.laws.proofs.Each.{Names, Starts, Literals, OccurrenceStarts, Occurrences}
 use Rattle.machine.proofs.File.{rooms}
-use Rattle.machine.proofs.Judged.{counts-can, not-held, not-counted, rest-decides}
+use Rattle.agreeing.proofs.Judged.{counts-can, not-held, not-counted, rest-decides}
 use Rattle.agreeing.proofs.points_agree.Statement.{statement}
 use Rattle.agreeing.proofs.points_agree.Tie as tie
 

@@ -5,7 +5,7 @@ use native.Mathlib.Omega.{arith}
 use borrow.Author.Tests.{eq-eqb, ne-eqb}
 use Rattle.written.specs.Lists.{all, below}
 use Rattle.machine.specs.Tested.{breakTested}
-use Rattle.machine.proofs.Tests.{tested-more, test-fails, tested-all}
+use Rattle.laws.proofs.Tests.{tested-more, test-fails, tested-all}
 use borrow.Author.Needs.{needs}
 use Rattle.agreeing_counts.proofs.breaks_agree.Statement.{statement}
 use Rattle.agreeing_counts.proofs.breaks_agree.Tie as tie

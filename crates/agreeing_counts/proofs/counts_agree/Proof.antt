@@ -1,6 +1,6 @@
 use mathlib.Core.Path.{sym, _∙_}
 use Rattle.machine.proofs.Ones.{can-breaks}
-use Rattle.machine.proofs.CountsTested.{trues-wrong, breaks-wrong, number-wrong, list-decides}
+use Rattle.agreeing_counts.proofs.CountsTested.{trues-wrong, breaks-wrong, number-wrong, list-decides}
 use Rattle.agreeing_counts.proofs.counts_agree.Statement.{statement}
 use Rattle.agreeing_counts.proofs.counts_agree.Tie as tie
 

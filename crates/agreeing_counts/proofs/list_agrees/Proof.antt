@@ -4,7 +4,7 @@ use Prim.Native.Nat.{_-_, _≤_}
 use native.Mathlib.Omega.{arith}
 use Rattle.written.specs.Lists.{all, below}
 use Rattle.machine.specs.Tested.{placeTested}
-use Rattle.machine.proofs.Tests.{tested-more, test-fails, tested-all}
+use Rattle.laws.proofs.Tests.{tested-more, test-fails, tested-all}
 use borrow.Author.Needs.{needs}
 use Rattle.agreeing_counts.proofs.list_agrees.Statement.{statement}
 use Rattle.agreeing_counts.proofs.list_agrees.Tie as tie

@@ -6,7 +6,7 @@ use borrow.Author.Tests.{eq-eqb, ne-eqb}
 use Rattle.written.specs.Lists.{all, below}
 use Rattle.machine.specs.Moving.{view}
 use Rattle.machine.specs.Tested.{trueTested}
-use Rattle.machine.proofs.Tests.{tested-more, test-fails, tested-all}
+use Rattle.laws.proofs.Tests.{tested-more, test-fails, tested-all}
 use Rattle.machine.proofs.Scanned.{is-count}
 use Rattle.machine.proofs.Tested.{trues-tested}
 use borrow.Author.Needs.{needs}

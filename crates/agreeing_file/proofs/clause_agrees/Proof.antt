@@ -5,9 +5,9 @@ use lib.ListN.{length, length-set}
 use borrow.Author.Needs.{needs}
 use Rattle.written.specs.Clauses.{termOf}
 use Rattle.machine.specs.Marks.{isFresh, markTerm}
-use Rattle.machine.proofs.Tests.{not-both}
-use Rattle.machine.proofs.Passing.{Passing, begun, fails, again, ended}
-use Rattle.machine.proofs.Marks.{unknown, repeated, fresh}
+use Rattle.laws.proofs.Tests.{not-both}
+use Rattle.agreeing_file.proofs.Passing.{Passing, begun, fails, again, ended}
+use Rattle.agreeing_file.proofs.Marks.{unknown, repeated, fresh}
 use Rattle.agreeing_file.proofs.clause_agrees.Statement.{statement}
 use Rattle.agreeing_file.proofs.clause_agrees.Tie as tie
 

@@ -4,9 +4,9 @@ use native.Mathlib.Omega.{arith}
 use lib.ListN.{length}
 use Rattle.written.specs.Agreement.{partOf}
 use Rattle.machine.specs.Matching.{isNext, passOne, clauseNext, passClause}
-use Rattle.machine.proofs.Tests.{not-both}
-use Rattle.machine.proofs.Passing.{Passing, begun, fails, again, ended}
-use Rattle.machine.proofs.Matching.{can-still}
+use Rattle.laws.proofs.Tests.{not-both}
+use Rattle.agreeing_file.proofs.Passing.{Passing, begun, fails, again, ended}
+use Rattle.agreeing_file.proofs.Matching.{can-still}
 use borrow.Author.Needs.{needs}
 use Rattle.agreeing_file.proofs.clause_next.Statement.{statement}
 use Rattle.agreeing_file.proofs.clause_next.Tie as tie

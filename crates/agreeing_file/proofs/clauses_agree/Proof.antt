@@ -3,7 +3,7 @@ use Prim.Native.Nat.{_-_, _≤_}
 use native.Mathlib.Omega.{arith}
 use lib.ListN.{length}
 use borrow.Author.Needs.{needs}
-use Rattle.machine.proofs.Marks.{Marking, marking-begun, marking-again, marking-fails, marking-ended}
+use Rattle.agreeing_file.proofs.Marks.{Marking, marking-begun, marking-again, marking-fails, marking-ended}
 use Rattle.agreeing_file.proofs.clauses_agree.Statement.{statement}
 use Rattle.agreeing_file.proofs.clauses_agree.Tie as tie
 

@@ -5,9 +5,9 @@ use lib.ListN.{length}
 use Rattle.written.specs.Lists.{below}
 use Rattle.written.specs.Agreement.{partOf}
 use Rattle.machine.specs.Matching.{clauseNext, passClause, clausesNext, passClauses}
-use Rattle.machine.proofs.Tests.{not-both}
-use Rattle.machine.proofs.Passing.{Passing, begun, range-fails, range-again, range-ended}
-use Rattle.machine.proofs.Matching.{clause-is, can-clause}
+use Rattle.laws.proofs.Tests.{not-both}
+use Rattle.agreeing_file.proofs.Passing.{Passing, begun, range-fails, range-again, range-ended}
+use Rattle.agreeing_file.proofs.Matching.{clause-is, can-clause}
 use borrow.Author.Needs.{needs}
 use Rattle.agreeing_file.proofs.clauses_next.Statement.{statement}
 use Rattle.agreeing_file.proofs.clauses_next.Tie as tie

@@ -2,7 +2,7 @@ use mathlib.Core.Path.{_≡_, ap, sym, _∙_}
 use borrow.Author.Needs.{needs}
 use borrow.Author.Tests.{le-leb, lt-leb}
 use Rattle.written.specs.Agreement.{nameBytes, isName}
-use Rattle.machine.proofs.Names.{name-begun, name-ended, name-left, name-over}
+use Rattle.agreeing_file.proofs.Names.{name-begun, name-ended, name-left, name-over}
 use Rattle.agreeing_file.proofs.is_name.Statement.{statement}
 use Rattle.agreeing_file.proofs.is_name.Tie as tie
 

@@ -2,8 +2,8 @@ use mathlib.Core.Path.{refl, sym, _∙_}
 use native.Mathlib.Omega.{arith}
 use Rattle.machine.specs.Tallies.{raised}
 use Rattle.machine.specs.Matching.{passOne}
-use Rattle.machine.proofs.Tests.{not-both}
-use Rattle.machine.proofs.Matching.{next-is, next-fits}
+use Rattle.laws.proofs.Tests.{not-both}
+use Rattle.agreeing_file.proofs.Matching.{next-is, next-fits}
 use borrow.Author.Needs.{needs}
 use Rattle.agreeing_file.proofs.literal_next.Statement.{statement}
 use Rattle.agreeing_file.proofs.literal_next.Tie as tie

@@ -1,5 +1,5 @@
 use borrow.Author.Needs.{needs}
-use Rattle.machine.proofs.Marks.{none-marked}
+use Rattle.agreeing_file.proofs.Marks.{none-marked}
 use Rattle.agreeing_file.proofs.literals_agree.Statement.{statement}
 use Rattle.agreeing_file.proofs.literals_agree.Tie as tie
 

@@ -5,7 +5,7 @@ use borrow.Author.Needs.{needs}
 use Rattle.written.specs.Lists.{zeros}
 use Rattle.written.specs.Limits.{narrow}
 use Rattle.names.specs.Finding.{homes}
-use Rattle.machine.proofs.Marks.{none-marked}
+use Rattle.agreeing_file.proofs.Marks.{none-marked}
 use Rattle.machine.proofs.Slots.{none-known}
 use Rattle.agreeing_file.proofs.names_differ.Statement.{statement}
 use Rattle.agreeing_file.proofs.names_differ.Tie as tie

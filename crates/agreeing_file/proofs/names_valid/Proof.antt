@@ -7,7 +7,7 @@ use lib.ListN.{length, getD}
 use borrow.Author.Needs.{needs}
 use Rattle.written.specs.Lists.{all, below}
 use Rattle.written.specs.Agreement.{isName}
-use Rattle.machine.proofs.Tests.{all-places, tested-more, test-fails, tested-all}
+use Rattle.laws.proofs.Tests.{all-places, tested-more, test-fails, tested-all}
 use Rattle.agreeing_file.proofs.names_valid.Statement.{statement}
 use Rattle.agreeing_file.proofs.names_valid.Tie as tie
 

@@ -1,6 +1,6 @@
 use mathlib.Core.Path.{refl, sym, _∙_}
 use native.Mathlib.Omega.{arith}
-use Rattle.machine.proofs.Matched.{no-cuts, match-run, match-all, no-match, match-ends}
+use Rattle.agreeing_file.proofs.Matched.{no-cuts, match-run, match-all, no-match, match-ends}
 use borrow.Author.Needs.{needs}
 use Rattle.agreeing_file.proofs.occurrences_agree.Statement.{statement}
 use Rattle.agreeing_file.proofs.occurrences_agree.Tie as tie

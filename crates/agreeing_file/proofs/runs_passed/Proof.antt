@@ -4,7 +4,7 @@ use Prim.Native.Nat.{_-_, _≤_}
 use native.Mathlib.Omega.{arith}
 use Rattle.written.specs.Agreement.{partOf}
 use Rattle.machine.specs.Matching.{runsPassed}
-use Rattle.machine.proofs.Matching.{passed-fails, passed-more, passed-all}
+use Rattle.agreeing_file.proofs.Matching.{passed-fails, passed-more, passed-all}
 use borrow.Author.Needs.{needs}
 use Rattle.agreeing_file.proofs.runs_passed.Statement.{statement}
 use Rattle.agreeing_file.proofs.runs_passed.Tie as tie

@@ -9,7 +9,7 @@ use borrow.Author.Needs.{needs}
 use borrow.Author.Tests.{eq-eqb, ne-eqb, lt-ltb, le-ltb}
 use Rattle.written.specs.Lists.{all, below}
 use Rattle.machine.specs.Judging.{startsRight}
-use Rattle.machine.proofs.Tests.{tested-more, test-fails, tested-all}
+use Rattle.laws.proofs.Tests.{tested-more, test-fails, tested-all}
 use Rattle.agreeing_file.proofs.starts_agree.Statement.{statement}
 use Rattle.agreeing_file.proofs.starts_agree.Tie as tie
 

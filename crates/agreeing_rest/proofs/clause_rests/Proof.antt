@@ -3,7 +3,7 @@ use mathlib.Core.Path.{refl}
 use borrow.Author.Needs.{needs}
 use Rattle.words.specs.Words.{wordCount}
 use Rattle.machine.specs.Judging.{clauseRests}
-use Rattle.machine.proofs.Tests.{said-no, said-yes}
+use Rattle.laws.proofs.Tests.{said-no, said-yes}
 use Rattle.agreeing_rest.proofs.clause_rests.Statement.{statement}
 use Rattle.agreeing_rest.proofs.clause_rests.Tie as tie
 

@@ -2,7 +2,7 @@
 use mathlib.Core.Path.{refl}
 use borrow.Author.Needs.{needs}
 use Rattle.machine.specs.Judging.{countRests}
-use Rattle.machine.proofs.Tests.{said-no, said-yes}
+use Rattle.laws.proofs.Tests.{said-no, said-yes}
 use Rattle.agreeing_rest.proofs.count_rests.Statement.{statement}
 use Rattle.agreeing_rest.proofs.count_rests.Tie as tie
 

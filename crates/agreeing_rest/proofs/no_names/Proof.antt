@@ -4,7 +4,7 @@ use lib.ListN.{length}
 use lib.Dec.{eqb}
 use borrow.Author.Needs.{needs}
 use borrow.Author.Tests.{eq-eqb, ne-eqb}
-use Rattle.machine.proofs.Tests.{Tested, none-tested, one-tested, one-fails, all-tested}
+use Rattle.laws.proofs.Tests.{Tested, none-tested, one-tested, one-fails, all-tested}
 use Rattle.agreeing_rest.proofs.no_names.Statement.{statement}
 use Rattle.agreeing_rest.proofs.no_names.Tie as tie
 

@@ -5,7 +5,7 @@ use lib.ListN.{length}
 use lib.Dec.{ltb}
 use borrow.Author.Needs.{needs}
 use borrow.Author.Tests.{lt-ltb, le-ltb}
-use Rattle.machine.proofs.Tests.{Tested, none-tested, one-tested, one-fails, all-tested}
+use Rattle.laws.proofs.Tests.{Tested, none-tested, one-tested, one-fails, all-tested}
 use Rattle.flipping_lists.proofs.known.Statement.{statement}
 use Rattle.flipping_lists.proofs.known.Tie as tie
 

@@ -3,7 +3,7 @@ use mathlib.Core.Path.{refl}
 use borrow.Author.Needs.{needs}
 use borrow.Author.Tests.{le-ltb}
 use Rattle.written.specs.Limits.{narrow}
-use Rattle.machine.proofs.Tests.{said-no, said-yes, second-no, second-yes}
+use Rattle.laws.proofs.Tests.{said-no, said-yes, second-no, second-yes}
 use Rattle.flipping_lists.specs.Tests.{testsOf}
 use Rattle.flipping_lists.proofs.Laws.{tests-long}
 use Rattle.flipping_lists.proofs.verdict.Statement.{statement}

@@ -5,7 +5,7 @@ use lib.ListN.{length}
 use Rattle.machine.specs.Passes.{upTo}
 use Rattle.machine.specs.Filling.{filling, putClause}
 use Rattle.machine.proofs.Rewritten.{up-none, up-more, up-end}
-use Rattle.machine.proofs.Filling.{clause-can, clause-is}
+use Rattle.occurrences.proofs.Filling.{clause-can, clause-is}
 use borrow.Author.Needs.{needs}
 use Rattle.occurrences.proofs.put_all.Statement.{statement}
 use Rattle.occurrences.proofs.put_all.Tie as tie

@@ -1,4 +1,4 @@
-use Rattle.machine.proofs.Filling.{put-is}
+use Rattle.occurrences.proofs.Filling.{put-is}
 use borrow.Author.Needs.{needs}
 use Rattle.occurrences.proofs.put_one.Statement.{statement}
 use Rattle.occurrences.proofs.put_one.Tie as tie

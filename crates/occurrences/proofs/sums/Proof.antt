@@ -6,7 +6,7 @@ use lib.ListN.{length, take, length-set}
 use Rattle.written.specs.Lists.{total}
 use Rattle.machine.specs.Passes.{rewritten}
 use Rattle.machine.proofs.Rewritten.{rewritten-none}
-use Rattle.machine.proofs.Summing.{sum-more, sum-fits, start-more, start-last}
+use Rattle.occurrences.proofs.Summing.{sum-more, sum-fits, start-more, start-last}
 use borrow.Author.Needs.{needs}
 use Rattle.occurrences.proofs.sums.Statement.{statement}
 use Rattle.occurrences.proofs.sums.Tie as tie

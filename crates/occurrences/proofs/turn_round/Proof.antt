@@ -1,6 +1,6 @@
 use mathlib.Core.Path.{sym}
 use lib.Seq.{length-take-le}
-use Rattle.machine.proofs.Rounding.{count-can, sum-can, put-can, turned-round}
+use Rattle.occurrences.proofs.Rounding.{count-can, sum-can, put-can, turned-round}
 use borrow.Author.Needs.{needs}
 use Rattle.occurrences.proofs.turn_round.Statement.{statement}
 use Rattle.occurrences.proofs.turn_round.Tie as tie

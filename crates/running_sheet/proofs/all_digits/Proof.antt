@@ -3,7 +3,7 @@ use Prim.Native.Nat.{_-_}
 use lib.ListN.{length}
 use borrow.Author.Needs.{needs}
 use Rattle.written.specs.Sheet.{isDigit}
-use Rattle.machine.proofs.Tests.{said-no, said-yes, Tested, none-tested, one-tested, one-fails, all-tested}
+use Rattle.laws.proofs.Tests.{said-no, said-yes, Tested, none-tested, one-tested, one-fails, all-tested}
 use Rattle.running_sheet.proofs.all_digits.Statement.{statement}
 use Rattle.running_sheet.proofs.all_digits.Tie as tie
 

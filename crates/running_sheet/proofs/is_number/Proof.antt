@@ -7,7 +7,7 @@ use borrow.Author.Needs.{needs}
 use lib.Dec.{ltb}
 use borrow.Author.Tests.{lt-ltb, le-ltb, le-leb, lt-leb, eq-eqb, ne-eqb}
 use Rattle.written.specs.Sheet.{isNumber}
-use Rattle.machine.proofs.Tests.{said-no, said-yes}
+use Rattle.laws.proofs.Tests.{said-no, said-yes}
 use Rattle.running_sheet.proofs.is_number.Statement.{statement}
 use Rattle.running_sheet.proofs.is_number.Tie as tie
 

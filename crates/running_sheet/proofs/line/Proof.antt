@@ -4,7 +4,7 @@ use mathlib.Core.Path.{_≡_}
 use mathlib.Core.List.{List}
 use borrow.Author.Needs.{needs}
 use Rattle.scan.specs.Scan.{restAt}
-use Rattle.machine.proofs.Tests.{said-no, said-yes}
+use Rattle.laws.proofs.Tests.{said-no, said-yes}
 use Rattle.running_sheet.proofs.Lines.{Formed, formed-by, line-open, key-differs, key-cut, no-number, too-low, too-high, line-taken}
 use Rattle.running_sheet.proofs.line.Statement.{statement}
 use Rattle.running_sheet.proofs.line.Tie as tie

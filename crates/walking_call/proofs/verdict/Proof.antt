@@ -1,7 +1,7 @@
 -- `walking_call::verdict` meets its contract: each way out has the tests that lead there. Assumes nothing.
 use mathlib.Core.Path.{refl}
 use borrow.Author.Needs.{needs}
-use Rattle.machine.proofs.Tests.{said-no, said-yes, second-no, second-yes}
+use Rattle.laws.proofs.Tests.{said-no, said-yes, second-no, second-yes}
 use Rattle.walking_call.specs.Tests.{testsOf}
 use Rattle.walking_call.proofs.verdict.Statement.{statement}
 use Rattle.walking_call.proofs.verdict.Tie as tie

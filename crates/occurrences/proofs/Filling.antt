@@ -13,13 +13,13 @@ use Rattle.written.specs.Lists.{all, whereFrom, listFrom, listOf, has, differ, 
 use Rattle.written.specs.Agreement.{partOf}
 use Rattle.laws.proofs.Basics.{by-eq, by-lt, both-first, both-second}
 use Rattle.laws.proofs.Membership.{differ-first, differ-rest}
 use Rattle.machine.specs.Tallies.{raised, CanSteps}
 use Rattle.machine.specs.Moving.{CanPart}
 use Rattle.machine.specs.Passes.{upTo}
 use Rattle.machine.specs.Cuts.{Cuts}
 use Rattle.machine.specs.Filling.{Filling, filling, putOne, CanPut, putClause, CanPutAll}
 use Rattle.machine.proofs.Cuts.{length-part, start-low, can-cut}
-use Rattle.machine.proofs.Tallying.{raised-length, raised-same, raised-other, raised-beyond}
+use Rattle.occurrences.proofs.Tallying.{raised-length, raised-same, raised-other, raised-beyond}
 
 -- a clause put into a run that was lent as a part of the occurrences
 pub put-is : (top : ℕ) (os oc cu : List ℕ) (c l : ℕ) {mid cu′ : List ℕ} → CanPut top os c l (filling oc cu)

@@ -15,14 +15,14 @@ use Rattle.laws.specs.Valid.{Valid}
 use Rattle.laws.proofs.Flips.{flipped-file}
 use Rattle.laws.proofs.Kept.{flipped-valid}
 use Rattle.laws.proofs.Sizes.{valid-fit}
 use Rattle.machine.specs.Moving.{Moving, view, flipTerm}
 use Rattle.machine.specs.Passes.{opened, closed, CanOpen, CanClose, applied, CanApply}
 use Rattle.machine.specs.Holds.{Resting, Walking}
 use Rattle.machine.specs.Lent.{fixedIn, movingIn}
-use Rattle.machine.proofs.FlipLists.{termsOf, flips-can, flips-walking}
+use Rattle.flipping_lists.proofs.FlipLists.{termsOf, flips-can, flips-walking}
 use Rattle.machine.proofs.Opened.{opened-walking, open-can, close-can}
-use Rattle.machine.proofs.Outcome.{flips-outcome}
+use Rattle.flipping_lists.proofs.Outcome.{flips-outcome}
 use Rattle.machine.proofs.Agreed as agreed
 
 module _ (lim : Limits) (top : ℕ) (fc : lim .clauses + 1 < top) (ft : 2 * lim .terms < top) (fl : lim .literals < top)
     (n : Counts) (t : Tables) (full : areFull lim t ≡ true) (ok : agree lim n t ≡ true) where

@@ -12,9 +12,9 @@ use Rattle.written.specs.Lists.{all, listFrom, below, has, differ, steps, zeros
 use Rattle.written.specs.Clauses.{termOf}
 use Rattle.written.specs.Agreement.{partOf}
 use Rattle.laws.proofs.Basics.{by-eq, by-lt, both, both-first, both-second, same-tests}
 use Rattle.machine.specs.Judging.{clauseRight, literalsRight, clausesIn, passes}
 use Rattle.machine.specs.Marks.{isFresh, markTerm}
-use Rattle.machine.proofs.Tests.{test-fails, tested-more, tested-all}
+use Rattle.laws.proofs.Tests.{test-fails, tested-more, tested-all}
 
 -- a literal is below twice the terms exactly if its term is one of them
 pub term-below : (T l : ℕ) → ltb (termOf l) T ≡ ltb l (2 * T)

@@ -9,11 +9,11 @@ use borrow.Author.Tests.{eqb-true}
 use Rattle.written.specs.declared.Counts.{Counts}
 use Rattle.written.specs.Lists.{all, below}
 use Rattle.written.specs.Clauses.{uncoveredIn}
 use Rattle.machine.specs.Judging.{clausesIn, valuesIn, truesRight, breaksRight, countsRight}
 use Rattle.machine.specs.Tested.{countOf, breakTested, placeTested, CanCounts}
 use Rattle.machine.proofs.Tested.{clauses-size}
 use Rattle.machine.proofs.Ones.{breaks-tested}
-use Rattle.machine.proofs.ListTested.{zeros-uncovered, list-tested}
+use Rattle.agreeing_counts.proofs.ListTested.{zeros-uncovered, list-tested}
 
 module _ (n : Counts) (ws ss ls os oc ts bs us ps : List ℕ) (h : CanCounts n ws ss ls os oc ts bs us ps) where
   abbrev vs : List ℕ

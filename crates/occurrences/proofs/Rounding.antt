@@ -13,18 +13,18 @@ use Rattle.written.specs.Tables.{startsFrom, over}
 use Rattle.written.specs.Agreement.{partOf}
 use Rattle.laws.proofs.Lists.{listFrom-length, getD-listOf, listOf-is}
 use Rattle.laws.proofs.Parts.{flatten-length}
 use Rattle.machine.specs.Tallies.{CanSteps}
 use Rattle.machine.specs.Passes.{zeroed, upTo}
 use Rattle.machine.specs.Judging.{clausesIn, clauseRight}
 use Rattle.machine.specs.Lent.{Begins}
 use Rattle.machine.specs.Cuts.{Cuts}
 use Rattle.machine.specs.Filling.{roundsIn, tally, CanTally, summed, CanSum, Filling, filling, putClause, CanPutAll, CanRound}
 use Rattle.machine.proofs.Cuts.{can-cut}
 use Rattle.machine.proofs.Cleared.{zeroed-back}
-use Rattle.machine.proofs.Tallying.{tally-can, tallied-length, tallied-at, tallied-beyond}
-use Rattle.machine.proofs.Summing.{sums-same, summed-starts, start-step, starts-cut}
-use Rattle.machine.proofs.Rounds.{right-low, right-once, joined-parts, clause-right, literals-low, run-length, rounds-length}
-use Rattle.machine.proofs.Filling.{Left, all-left, filled}
+use Rattle.occurrences.proofs.Tallying.{tally-can, tallied-length, tallied-at, tallied-beyond}
+use Rattle.occurrences.proofs.Summing.{sums-same, summed-starts, start-step, starts-cut}
+use Rattle.occurrences.proofs.Rounds.{right-low, right-once, joined-parts, clause-right, literals-low, run-length, rounds-length}
+use Rattle.occurrences.proofs.Filling.{Left, all-left, filled}
 
 module _ (top T C L : ℕ) (ss ls os oc cu : List ℕ) (t : CanRound top T C L ss ls os oc cu) where
   abbrev cs : List (List ℕ)

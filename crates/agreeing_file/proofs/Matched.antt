@@ -13,15 +13,15 @@ use Rattle.written.specs.Agreement.{partOf}
 use Rattle.laws.proofs.Basics.{by-cases, both-first, same-eq, same-tests}
 use Rattle.laws.proofs.All.{all-getD, all-below, below-all, same-refl}
 use Rattle.laws.proofs.Lists.{listFrom-length, getD-listOf}
 use Rattle.machine.specs.Moving.{CanPart}
 use Rattle.machine.specs.Judging.{clausesIn, clauseRight, literalsRight, turnedRight}
 use Rattle.machine.specs.Cuts.{Cuts}
 use Rattle.machine.specs.Matching.{cutsRight, clausesNext, passClauses, runsPassed, CanPassAll, CanMatch}
-use Rattle.machine.proofs.Tests.{not-both}
+use Rattle.laws.proofs.Tests.{not-both}
 use Rattle.machine.proofs.Cuts.{can-cut, short-part}
 use Rattle.machine.proofs.Occurrences.{turned-cuts, turned-part, parts-turned}
-use Rattle.machine.proofs.Matching.{cuts-yes, cuts-back}
-use Rattle.machine.proofs.Left.{isLeft, left-nothing, left-clauses}
+use Rattle.agreeing_file.proofs.Matching.{cuts-yes, cuts-back}
+use Rattle.agreeing_file.proofs.Left.{isLeft, left-nothing, left-clauses}
 
 -- where nothing is passed, tables that cut are right exactly if the occurrences are left
 left-first : (T L : ℕ) (cs : List (List ℕ)) (os oc ns : List ℕ) → Cuts (2 * T) L os → L ≤ length oc → ((l : ℕ) → l < 2 * T → getD ns l 0 ≡ 0)

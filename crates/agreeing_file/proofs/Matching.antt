@@ -10,9 +10,9 @@ use borrow.Author.Tests.{eqb-true, eq-eqb, ne-eqb, leb-true, le-leb, lt-leb, ltb
 use Rattle.written.specs.Agreement.{partOf}
 use Rattle.laws.proofs.Basics.{both, both-first, both-second}
 use Rattle.laws.proofs.All.{all-below, below-all}
 use Rattle.machine.specs.Cuts.{Cuts}
 use Rattle.machine.specs.Matching.{neverFall, cutsRight, standsAt, isNext, clauseNext, runsPassed, CanPass}
-use Rattle.machine.proofs.Tests.{tested-more, test-fails, tested-all}
+use Rattle.laws.proofs.Tests.{tested-more, test-fails, tested-all}
 
 -- starts that never fall, tested one after another
 module _ (ss : List ℕ) where

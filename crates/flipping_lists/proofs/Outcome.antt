@@ -15,16 +15,16 @@ use Rattle.laws.proofs.Turning.{turned-bits}
 use Rattle.laws.proofs.Flips.{flipped-file}
 use Rattle.laws.proofs.Parity.{flipped-length}
 use Rattle.laws.proofs.Values.{turn-over}
 use Rattle.machine.specs.Moving.{Fixed, Moving, flipTerm}
 use Rattle.machine.specs.Passes.{opened, closed}
 use Rattle.machine.specs.Holds.{Resting, Walking}
 use Rattle.machine.specs.Lent.{fixedIn, movingIn}
 use Rattle.machine.proofs.Standings.{kept-trans}
-use Rattle.machine.proofs.FlipLists.{termsOf, terms-first, terms-rest, flips-walking, flips-kept}
+use Rattle.flipping_lists.proofs.FlipLists.{termsOf, terms-first, terms-rest, flips-walking, flips-kept}
 use Rattle.machine.proofs.Sizes.{sizes-trans, flips-sizes, opened-sizes}
 use Rattle.machine.proofs.Opened.{opened-walking, opened-kept}
 use Rattle.machine.proofs.Laid.{laid-resting, holding-laid}
 use Rattle.machine.proofs.Tallied.{closed-outcome}
 
 -- a flip list turns the words to those that are written for its outcome
 words-flipped : (n : ℕ) (old : List ℕ) (x : Fixed) (ts : List ℕ) (s : State) (w : Moving) → Bits (s .values) → termsOf (length (s .values)) ts ≡ true
