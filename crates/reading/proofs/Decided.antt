@@ -11,7 +11,7 @@ use Rattle.written.specs.Reasons.{fault}
 use Rattle.written.specs.Clauses.{asRead}
 use Rattle.written.specs.Reading.{Reading, accepted, refused, readText}
 use Rattle.written.specs.Tables.{Tables, lent, areFull, cleared, countsOf}
-use Rattle.written.specs.Outcomes.{Leaves, readLeaves, readingOf}
+use Rattle.written.specs.Outcomes.{Leaves, leaves, readLeaves, readingOf}
 use Rattle.laws.proofs.Holding.{cleared-full, cleared-again, holding-cleared}
 use Rattle.laws.proofs.Readings.{reading-valid}
 use Rattle.laws.proofs.ReadCalls.{short-reading, full-reading}
@@ -19,7 +19,7 @@ use Rattle.laws.proofs.Tests.{said-no, said-yes}
 use Rattle.reading_lines.specs.Drafting.{Desk}
 use Rattle.reading_end.specs.Clearing.{blanked, deskIn, wiped, Others, othersIn, wipedOthers}
 use Rattle.reading_end.proofs.Cleared.{both-wiped, blanked-is}
-use Rattle.reading.specs.Bare.{Bare}
+use Rattle.reading_end.specs.Bare.{Bare}
 
 -- full tables, and u once they are cleared
 module _ (lim : Limits) (t : Tables) (full : areFull lim t ≡ true) {u : Tables} (e : u ≡ blanked lim t) where
@@ -31,12 +31,8 @@ module _ (lim : Limits) (t : Tables) (full : areFull lim t ≡ true) {u : Tables
 
 module _ (lim : Limits) (text : List ℕ) (t : Tables) where
   -- a table is too short: nothing changes
-  module _ (h : areFull lim t ≡ false) where
-    short-answer : R.Refused (fault TableTooShort) ≡ readingOf lim text t .answer
-    short-answer = sym (ap (λ (o : Leaves Read). o .answer) (short-reading lim text t h))
-
-    short-tables : t ≡ readingOf lim text t .tables
-    short-tables = sym (ap (λ (o : Leaves Read). o .tables) (short-reading lim text t h))
+  short-leaves : areFull lim t ≡ false → leaves (R.Refused (fault TableTooShort)) t ≡ readingOf lim text t
+  short-leaves h = sym (short-reading lim text t h)
 
   -- none is
   module _ (full : areFull lim t ≡ true) {u : Tables} (e : u ≡ blanked lim t) where
@@ -52,12 +48,6 @@ module _ (lim : Limits) (text : List ℕ) (t : Tables) where
         ap (λ (v : Tables). readLeaves lim v (readText lim text)) (cleared-now lim t full e) ∙ leaves-cleared (readText lim text) refl
         ∙ sym (full-reading lim text t full)
 
-    read-answer : {r : Read} → r ≡ readLeaves lim u (readText lim text) .answer → r ≡ readingOf lim text t .answer
-    read-answer q = q ∙ ap (λ (o : Leaves Read). o .answer) decided
-
-    read-tables : {v : Tables} → v ≡ readLeaves lim u (readText lim text) .tables → v ≡ readingOf lim text t .tables
-    read-tables q = q ∙ ap (λ (o : Leaves Read). o .tables) decided
-
 -- ---- a reading put together from what its calls gave, as they gave it
 
 -- the ten tables, those of a draft and the others
@@ -67,8 +57,8 @@ joined w o =
 
 -- a was answered to whether the tables are full
 module _ (lim : Limits) (t : Tables) {a : Bool} (asked : a ≡ areFull lim t) where
-  pub was-short : (text : List ℕ) → not a ≡ true → (R.Refused (fault TableTooShort) ≡ readingOf lim text t .answer) × (t ≡ readingOf lim text t .tables)
-  was-short text h = (short-answer lim text t (said-no h asked), short-tables lim text t (said-no h asked))
+  pub was-short : (text : List ℕ) → not a ≡ true → leaves (R.Refused (fault TableTooShort)) t ≡ readingOf lim text t
+  was-short text h = short-leaves lim text t (said-no h asked)
 
   -- what was cleared
   module _ (h : not a ≡ false) {w : Desk} (p : w ≡ wiped lim (deskIn t)) {o : Others} (q : o ≡ wipedOthers lim (othersIn t)) where
@@ -76,8 +66,5 @@ module _ (lim : Limits) (t : Tables) {a : Bool} (asked : a ≡ areFull lim t) wh
     is-bare = now-bare lim t (said-yes h asked) (both-wiped lim t p q)
 
     -- what was read
-    pub was-read : (text : List ℕ) {r : Read} {v : Tables}
-        → (r ≡ readLeaves lim (joined w o) (readText lim text) .answer) × (v ≡ readLeaves lim (joined w o) (readText lim text) .tables)
-        → (r ≡ readingOf lim text t .answer) × (v ≡ readingOf lim text t .tables)
-    was-read text e =
-        (read-answer lim text t (said-yes h asked) (both-wiped lim t p q) (e .0), read-tables lim text t (said-yes h asked) (both-wiped lim t p q) (e .1))
+    pub was-read : (text : List ℕ) {l : Leaves Read} → l ≡ readLeaves lim (joined w o) (readText lim text) → l ≡ readingOf lim text t
+    was-read text e = e ∙ decided lim text t (said-yes h asked) (both-wiped lim t p q)

@@ -11,29 +11,28 @@ use Rattle.written.specs.Limits.{Limits}
 use Rattle.written.specs.Reasons.{fault}
 use Rattle.written.specs.Reading.{refused, readText}
 use Rattle.written.specs.Tables.{Tables, lent, sizes, fullSizes}
-use Rattle.written.specs.Outcomes.{readLeaves}
+use Rattle.written.specs.Outcomes.{leaves, readLeaves}
 use Rattle.laws.proofs.Each.Table.{Names, Starts, Literals, Breaks, Places}
 use Rattle.laws.proofs.Holding.{full-at}
 use Rattle.reading_lines.specs.declared.Ended.{Ended}
 use Rattle.reading_lines.specs.declared.Ended.the-variants as E
-use Rattle.reading_lines.specs.Drafting.{Desk, desk, Beyond, Blank, Drawn, readAll}
+use Rattle.reading_lines.specs.Drafting.{Desk, Beyond, Blank, Drawn, readAll}
 use Rattle.written.specs.declared.Tested.{Tested}
 use Rattle.written.specs.declared.Tested.the-variants.{Passed, Failed}
 use Rattle.reading_end.specs.Tests.{textTests}
 use Rattle.reading_end.specs.Clearing.{deskIn, wiped}
-use Rattle.reading.specs.Bare.{Bare}
+use Rattle.reading_end.specs.Bare.{Bare}
 use Rattle.reading.proofs.Texts.{failed-read, passed-read, passed-short}
-use Rattle.reading.proofs.Bare.{bare-zero, bare-back, bare-back-from}
+use Rattle.reading_end.specs.Laid.{Past}
+use Rattle.reading_end.proofs.Bare.{bare-zero}
+use Rattle.reading_end.proofs.Whole.{wiped-back}
+use Rattle.reading.proofs.Drafted.{beyond-past}
 
 -- the text fails a test: nothing is written
 module _ (lim : Limits) (text : List ℕ) (t : Tables) (b : Bare lim t) {r : Reason} (h : textTests lim text ≡ Failed r) where
-  pub failed-answer : R.Refused (fault r) ≡ readLeaves lim t (readText lim text) .answer
+  failed-leaves : leaves (R.Refused (fault r)) t ≡ readLeaves lim t (readText lim text)
   unfolding readLeaves
-  failed-answer = sym (ap (λ k. readLeaves lim t k .answer) (failed-read lim text h))
-
-  pub failed-tables : t ≡ readLeaves lim t (readText lim text) .tables
-  unfolding readLeaves
-  failed-tables = sym (b .zero) ∙ sym (ap (λ k. readLeaves lim t k .tables) (failed-read lim text h))
+  failed-leaves = ap (leaves (R.Refused (fault r))) (sym (b .zero)) ∙ sym (ap (readLeaves lim t) (failed-read lim text h))
 
 -- it passes; H homes of names
 module _ (lim : Limits) (text : List ℕ) (t : Tables) (b : Bare lim t) (passed : textTests lim text ≡ Passed) (H : ℕ) (slots-fit : H + lim .terms + 1 ≤ lim .clauses) where
@@ -55,38 +54,29 @@ module _ (lim : Limits) (text : List ℕ) (t : Tables) (b : Bare lim t) (passed 
   -- the tables w of a draft, as long as the lent tables
   module _ (w : Desk) (far : Beyond H lim (deskIn t) w) (en : length (w .names) ≡ length (t .names)) (es : length (w .starts) ≡ length (t .starts))
       (el : length (w .literals) ≡ length (t .literals)) (em : length (w .stamps) ≡ length (t .breaks)) (eo : length (w .slots) ≡ length (t .places)) where
-    wiped-back : wiped lim w ≡ deskIn t
-    unfolding wiped fullSizes sizes
-    wiped-back =
-        let n = bare-back lim t (b .zero) Names (b .full) (w .names) (omega (arith, en, full-at lim t Names (b .full))) (far .names-beyond) in
-        let s = bare-back lim t (b .zero) Starts (b .full) (w .starts) (omega (arith, es, full-at lim t Starts (b .full))) (far .starts-beyond) in
-        let l = bare-back lim t (b .zero) Literals (b .full) (w .literals) (omega (arith, el, full-at lim t Literals (b .full))) (far .literals-beyond) in
-        let m = bare-back lim t (b .zero) Breaks (b .full) (w .stamps) (omega (arith, em, full-at lim t Breaks (b .full))) (far .stamps-beyond) in
-        let o = bare-back-from lim t (b .zero) Places (b .full) (H + lim .terms + 1) slots-fit (w .slots)
-        (omega (arith, eo, slots-fit, full-at lim t Places (b .full))) (far .slots-beyond) in
-        λ i. desk (n i) (s i) (l i) (m i) (o i)
+    past : Past lim t w
+    unfolding fullSizes sizes
+    past =
+        beyond-past lim t (b .full) H slots-fit w far (omega (arith, en, full-at lim t Names (b .full))) (omega (arith, es, full-at lim t Starts (b .full)))
+        (omega (arith, el, full-at lim t Literals (b .full))) (omega (arith, em, full-at lim t Breaks (b .full))) (omega (arith, eo, slots-fit, full-at lim t Places (b .full)))
 
-    pub refused-tables : {e : Fault} → readAll lim text ≡ refused e → {d : Desk} → d ≡ wiped lim w
-        → lent (d .names) (t .values) (d .starts) (d .literals) (t .occurrenceStarts) (t .occurrences) (t .trues) (d .stamps) (t .uncovered) (d .slots)
-        ≡ readLeaves lim t (readText lim text) .tables
+    refused-leaves : {e : Fault} → readAll lim text ≡ refused e → {d : Desk} → d ≡ wiped lim w
+        → leaves (R.Refused e) (lent (d .names) (t .values) (d .starts) (d .literals) (t .occurrenceStarts) (t .occurrences) (t .trues) (d .stamps) (t .uncovered) (d .slots))
+        ≡ readLeaves lim t (readText lim text)
     unfolding readLeaves
-    refused-tables h {d} q =
-        let r = q ∙ wiped-back in
+    refused-leaves {e} h {d} q =
+        let r = q ∙ wiped-back lim t b w past in
         let u : lent (d .names) (t .values) (d .starts) (d .literals) (t .occurrenceStarts) (t .occurrences) (t .trues) (d .stamps) (t .uncovered) (d .slots) ≡ t =
         (λ i. lent (r i .names) (t .values) (r i .starts) (r i .literals) (t .occurrenceStarts) (t .occurrences) (t .trues) (r i .stamps) (t .uncovered) (r i .slots)) in
-        u ∙ sym (b .zero) ∙ sym (ap (λ k. readLeaves lim t k .tables) (passed-read lim text passed ∙ h))
-
-  pub refused-answer : {e : Fault} → readAll lim text ≡ refused e → R.Refused e ≡ readLeaves lim t (readText lim text) .answer
-  unfolding readLeaves
-  refused-answer h = sym (ap (λ k. readLeaves lim t k .answer) (passed-read lim text passed ∙ h))
+        ap (leaves (R.Refused e)) (u ∙ sym (b .zero)) ∙ sym (ap (readLeaves lim t) (passed-read lim text passed ∙ h))
 
 -- ---- put together from what the calls gave, as they gave it
 
 -- v was answered to the tests of the text
 module _ (lim : Limits) (text : List ℕ) (t : Tables) (b : Bare lim t) {v : Tested} (asked : v ≡ textTests lim text) where
   pub was-failed : {r : Reason} → v ≡ Failed r
-      → (R.Refused (fault r) ≡ readLeaves lim t (readText lim text) .answer) × (t ≡ readLeaves lim t (readText lim text) .tables)
-  was-failed h = (failed-answer lim text t b (sym asked ∙ h), failed-tables lim text t b (sym asked ∙ h))
+      → leaves (R.Refused (fault r)) t ≡ readLeaves lim t (readText lim text)
+  was-failed h = failed-leaves lim text t b (sym asked ∙ h)
 
   module _ (told : v ≡ Passed) (H : ℕ) (slots-fit : H + lim .terms + 1 ≤ lim .clauses) where
     pub draft-can : 0 < H → Blank H lim text (deskIn t)
@@ -96,10 +86,8 @@ module _ (lim : Limits) (text : List ℕ) (t : Tables) (b : Bare lim t) {v : Tes
     pub was-refused : (w : Desk) {z : Ended} {e : Fault} → Drawn H lim text (deskIn t) w z → z ≡ E.Refused e
         → length (w .names) ≡ length (t .names) → length (w .starts) ≡ length (t .starts) → length (w .literals) ≡ length (t .literals)
         → length (w .stamps) ≡ length (t .breaks) → length (w .slots) ≡ length (t .places) → {d : Desk} → d ≡ wiped lim w
-        → (R.Refused e ≡ readLeaves lim t (readText lim text) .answer)
-        × (lent (d .names) (t .values) (d .starts) (d .literals) (t .occurrenceStarts) (t .occurrences) (t .trues) (d .stamps) (t .uncovered) (d .slots)
-        ≡ readLeaves lim t (readText lim text) .tables)
+        → leaves (R.Refused e) (lent (d .names) (t .values) (d .starts) (d .literals) (t .occurrenceStarts) (t .occurrences) (t .trues) (d .stamps) (t .uncovered) (d .slots))
+        ≡ readLeaves lim t (readText lim text)
     was-refused w drawn ended en es el em eo cleared =
-        let h = sym asked ∙ told in
         let d = subst (Drawn H lim text (deskIn t) w) ended drawn in
-        (refused-answer lim text t b h H slots-fit (d .0), refused-tables lim text t b h H slots-fit w (d .1) en es el em eo (d .0) cleared)
+        refused-leaves lim text t b (sym asked ∙ told) H slots-fit w (d .1) en es el em eo (d .0) cleared

@@ -2,3 +2,7 @@
 pub mod Cleared
 pub mod Finished
 pub mod Tests
+-- a file laid in cleared tables
+pub mod Bare
+pub mod Fresh
+pub mod Whole

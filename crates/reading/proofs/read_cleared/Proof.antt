@@ -5,7 +5,7 @@ use borrow.Author.Needs.{needs}
 use Rattle.written.specs.Limits.{narrow}
 use Rattle.names.specs.Finding.{homes}
 use Rattle.reading.proofs.Refused.{was-failed, draft-can, was-refused}
-use Rattle.reading.proofs.Whole.{finish-can, was-whole}
+use Rattle.reading.proofs.Drafted.{finish-can, was-whole}
 use Rattle.reading.proofs.read_cleared.Statement.{statement}
 use Rattle.reading.proofs.read_cleared.Tie as tie
 

@@ -1,4 +1,4 @@
--- A whole draft in tables that were cleared: it can be finished, and then the tables are those written for the file that was read. Assumes nothing.
+-- A file laid in tables that were cleared: it can be finished, and then the tables are those written for it; and what a draft used is 0 again once it is wiped. Assumes nothing.
 use mathlib.Core.Path.{_≡_, ap, sym, _∙_, subst, subst₂}
 use mathlib.Core.List.{List, _++_, flatten}
 use Prim.Native.Nat.{ℕ, _+_, _*_, _≤_, _<_}
@@ -9,15 +9,14 @@ use Rattle.written.specs.declared.Read.the-variants as R
 use Rattle.written.specs.Lists.{padded}
 use Rattle.written.specs.Limits.{Limits}
 use Rattle.written.specs.Clauses.{File, State, afresh, asRead}
-use Rattle.written.specs.Reading.{accepted, readText}
 use Rattle.written.specs.Tables.{Tables, lent, sizes, fullSizes, startsFrom, turnedRound, inUse, over, countsOf, holding}
-use Rattle.written.specs.Outcomes.{readLeaves}
+use Rattle.written.specs.Reading.{accepted}
+use Rattle.written.specs.Outcomes.{leaves, readLeaves}
 use Rattle.laws.specs.Valid.{Proper, Valid}
 use Rattle.laws.proofs.Lists.{padded-length}
 use Rattle.laws.proofs.Parts.{flatten-length}
 use Rattle.laws.proofs.Each.Table.{Names, Starts, Literals, OccurrenceStarts, Occurrences, Breaks, Places}
 use Rattle.laws.proofs.Holding.{tables-at, holding-at}
-use Rattle.laws.proofs.Readings.{reading-proper}
 use Rattle.machine.specs.Tallies.{tallies}
 use Rattle.machine.specs.Moving.{Fixed, fixed, Moving, moving, view}
 use Rattle.machine.specs.Passes.{zeroed, closed, recounted, CanClose, CanRecount}
@@ -27,18 +26,13 @@ use Rattle.machine.specs.Filling.{roundsIn, CanRound}
 use Rattle.machine.proofs.Recounted.{recount-can}
 use Rattle.machine.proofs.Opened.{close-can}
 use Rattle.reading_lines.specs.declared.Place.{Place}
-use Rattle.reading_lines.specs.declared.Ended.{Ended}
-use Rattle.reading_lines.specs.declared.Ended.the-variants as E
-use Rattle.reading_lines.specs.Drafting.{Desk, Drafted, Leads, Drawn, whole, readAll}
-use Rattle.written.specs.declared.Tested.{Tested}
-use Rattle.written.specs.declared.Tested.the-variants.{Passed}
-use Rattle.reading_end.specs.Tests.{textTests}
-use Rattle.reading_end.specs.Clearing.{deskIn, restZeroed}
+use Rattle.reading_lines.specs.Drafting.{Desk, desk}
+use Rattle.reading_end.specs.Clearing.{deskIn, wiped, restZeroed}
 use Rattle.reading_end.specs.Finishing.{Finished, finishing, tidyClauses, tidyMoving, turned, laidOut, countedOut, countsAt, finished, CanFinish}
-use Rattle.reading.specs.Bare.{Bare}
-use Rattle.reading.proofs.Texts.{passed-read}
-use Rattle.reading.proofs.Bare.{bare-back, bare-back-from}
-use Rattle.reading.proofs.Fresh.{fresh-valid, fresh-held, fresh-rounds, fresh-can-round, fresh-ready, freshCounts, fresh-walking, fresh-outcome}
+use Rattle.reading_end.specs.Laid.{Past, Laid}
+use Rattle.reading_end.specs.Bare.{Bare}
+use Rattle.reading_end.proofs.Bare.{bare-back}
+use Rattle.reading_end.proofs.Fresh.{fresh-valid, fresh-held, fresh-rounds, fresh-can-round, fresh-ready, freshCounts, fresh-walking, fresh-outcome}
 
 -- what is asked of tables is asked of those that are equal to them
 round-by : {top T C L T′ C′ L′ : ℕ} {ss ls ss′ ls′ os oc cu : List ℕ} → T ≡ T′ → C ≡ C′ → L ≡ L′ → ss ≡ ss′ → ls ≡ ls′
@@ -49,12 +43,19 @@ recount-by : {top C T C′ T′ : ℕ} {ws ss ls ss′ ls′ : List ℕ} {m m′
     → CanRecount top C′ T′ (view ws ss′ ls′) (m′ .tallies) → CanRecount top C T (view ws ss ls) (m .tallies)
 recount-by ec et es en em h = rw (ec, et, es, en, em) h
 
--- the tables w of a draft of the text, made in the lent tables t; H homes of names
-module _ (lim : Limits) (text : List ℕ) (t : Tables) (b : Bare lim t) (passed : textTests lim text ≡ Passed) (H : ℕ)
-    (slots-fit : H + lim .terms + 1 ≤ lim .clauses) (w : Desk) (p : Place) (l : Leads (readAll lim text) whole H lim (deskIn t) w p) where
-  abbrev f : File
-  f = record { names = l .draft .names; clauses = l .draft .clauses }
+-- what a draft used, wiped, is what was lent
+pub wiped-back : (lim : Limits) (t : Tables) → Bare lim t → (w : Desk) → Past lim t w → wiped lim w ≡ deskIn t
+unfolding wiped fullSizes sizes
+wiped-back lim t b w far =
+    let n = bare-back lim t (b .zero) Names (b .full) (w .names) (far .names-room) (far .names-past) in
+    let s = bare-back lim t (b .zero) Starts (b .full) (w .starts) (far .starts-room) (far .starts-past) in
+    let l = bare-back lim t (b .zero) Literals (b .full) (w .literals) (far .literals-room) (far .literals-past) in
+    let m = bare-back lim t (b .zero) Breaks (b .full) (w .stamps) (far .stamps-room) (far .stamps-past) in
+    let o = bare-back lim t (b .zero) Places (b .full) (w .slots) (far .slots-room) (far .slots-past) in
+    λ i. desk (n i) (s i) (l i) (m i) (o i)
 
+-- a proper file f, laid in the tables w of a draft that was made in the lent tables t
+module _ (lim : Limits) (t : Tables) (b : Bare lim t) (f : File) (proper : Proper lim f) (w : Desk) (p : Place) (laid : Laid lim t w p f) where
   abbrev s : State
   s = asRead f
 
@@ -67,15 +68,6 @@ module _ (lim : Limits) (text : List ℕ) (t : Tables) (b : Bare lim t) (passed 
   abbrev m : Moving
   m = moving (t .values) (tallies (t .trues) (w .stamps) (t .uncovered) (w .slots) 0)
 
-  drafted : Drafted H lim (deskIn t) w p (l .draft)
-  drafted = l .drafted
-
-  read-is : readText lim text ≡ accepted f
-  read-is = passed-read lim text passed ∙ l .is
-
-  proper : Proper lim f
-  proper = reading-proper lim text f read-is
-
   valid : Valid lim s
   valid = fresh-valid lim t (b .full) (b .zero) f proper
 
@@ -83,35 +75,33 @@ module _ (lim : Limits) (text : List ℕ) (t : Tables) (b : Bare lim t) (passed 
 
   names-are : w .names ≡ h .names
   unfolding inUse asRead afresh
-  names-are = fresh-held lim t (b .full) (b .zero) f proper Names (drafted .names-are)
+  names-are = fresh-held lim t (b .full) (b .zero) f proper Names (laid .names-are)
 
   starts-are : w .starts ≡ h .starts
   unfolding inUse asRead afresh
-  starts-are = fresh-held lim t (b .full) (b .zero) f proper Starts (drafted .starts-are)
+  starts-are = fresh-held lim t (b .full) (b .zero) f proper Starts (laid .starts-are)
 
   literals-are : restZeroed (lim .literals) (p .from) (w .literals) ≡ h .literals
   unfolding restZeroed inUse asRead afresh fullSizes sizes
   literals-are =
       let n = padded-length (lim .literals) (flatten (f .clauses)) (omega (arith, flatten-length (f .clauses), proper .few-literals)) in
-      ap (λ (xs : List ℕ). over (padded (lim .literals) xs) (w .literals)) (drafted .kept-are)
+      ap (λ (xs : List ℕ). over (padded (lim .literals) xs) (w .literals)) (laid .kept-are)
       ∙ ap (λ (r : List ℕ). padded (lim .literals) (flatten (f .clauses)) ++ r)
-      (ap (λ (k : ℕ). drop k (w .literals)) n ∙ drafted .beyond .literals-beyond ∙ ap (λ (k : ℕ). drop k (t .literals)) (sym n))
+      (ap (λ (k : ℕ). drop k (w .literals)) n ∙ laid .past .literals-past ∙ ap (λ (k : ℕ). drop k (t .literals)) (sym n))
       ∙ sym (holding-at lim s t Literals ∙ ap (λ (u : List ℕ). over u (t .literals)) (tables-at lim s Literals))
 
   stamps-are : zeroed (lim .terms) (w .stamps) ≡ t .breaks
   unfolding fullSizes sizes
-  stamps-are = bare-back lim t (b .zero) Breaks (b .full) (w .stamps) (drafted .ready .stamps-room) (drafted .beyond .stamps-beyond)
+  stamps-are = bare-back lim t (b .zero) Breaks (b .full) (w .stamps) (laid .past .stamps-room) (laid .past .stamps-past)
 
   slots-are : zeroed (lim .clauses) (w .slots) ≡ t .places
   unfolding fullSizes sizes
-  slots-are =
-      bare-back-from lim t (b .zero) Places (b .full) (H + lim .terms + 1) slots-fit (w .slots) (omega (arith, drafted .ready .indexed .room))
-      (drafted .beyond .slots-beyond)
+  slots-are = bare-back lim t (b .zero) Places (b .full) (w .slots) (laid .past .slots-room) (laid .past .slots-past)
 
   -- ---- the literals turned round
 
   rounds-are : roundsIn (p .terms) (p .clauses) (w .starts) (restZeroed (lim .literals) (p .from) (w .literals)) ≡ turnedRound f
-  rounds-are = rw (drafted .terms-are, drafted .clauses-are, starts-are, literals-are) (fresh-rounds lim t (b .full) (b .zero) f proper)
+  rounds-are = rw (laid .terms-are, laid .clauses-are, starts-are, literals-are) (fresh-rounds lim t (b .full) (b .zero) f proper)
 
   laid-out : laidOut lim p x ≡ fixedIn h
   unfolding laidOut turned tidyClauses inUse asRead afresh
@@ -131,11 +121,11 @@ module _ (lim : Limits) (text : List ℕ) (t : Tables) (b : Bare lim t) (passed 
 
     terms-are : p .terms ≡ length (s .values)
     unfolding asRead afresh
-    terms-are = drafted .terms-are ∙ sym (valid .one-each)
+    terms-are = laid .terms-are ∙ sym (valid .one-each)
 
     counted-out : countedOut lim p x m ≡ counts
     unfolding countedOut
-    counted-out = λ i. recounted (drafted .clauses-are i) (terms-are i) (laid-out i) (tidied i)
+    counted-out = λ i. recounted (laid .clauses-are i) (terms-are i) (laid-out i) (tidied i)
 
     walking : Walking top s (fixedIn h) counts
     walking = fresh-walking lim t (b .full) (b .zero) f proper top fc ft fl
@@ -143,12 +133,12 @@ module _ (lim : Limits) (text : List ℕ) (t : Tables) (b : Bare lim t) (passed 
     pub can-finish : CanFinish top lim p x m
     unfolding tidyClauses asRead afresh
     can-finish =
-        let d = drafted in
+        let d = laid in
         record {
-          few-terms = d .ready .few-terms;
-          few-clauses = omega (arith, d .clauses-are, d .few-clauses);
+          few-terms = omega (arith, d .terms-are, proper .few-terms);
+          few-clauses = omega (arith, d .clauses-are, proper .few-clauses);
           few-literals = omega (arith, d .from-is, proper .few-literals);
-          room = d .ready .literals-room;
+          room = d .past .literals-room;
           rounds =
               round-by (d .terms-are) (d .clauses-are) (d .from-is) starts-are literals-are
               (fresh-can-round lim t (b .full) (b .zero) f proper top fc fl cursors-fit);
@@ -166,55 +156,21 @@ module _ (lim : Limits) (text : List ℕ) (t : Tables) (b : Bare lim t) (passed 
     finished-is : finished lim p x m ≡ finishing (countsOf s) (fixedIn h) (movingIn (length (s .uncovered)) h)
     unfolding finished countsAt countsOf asRead afresh
     finished-is =
-        let o = ap (closed (p .clauses)) counted-out ∙ ap (λ (k : ℕ). closed k counts) (drafted .clauses-are)
+        let o = ap (closed (p .clauses)) counted-out ∙ ap (λ (k : ℕ). closed k counts) (laid .clauses-are)
         ∙ fresh-outcome lim t (b .full) (b .zero) f proper top fc ft fl in
         let n = ap (λ (k : Moving). k .tallies .uncovered .number) counted-out ∙ walking .number in
-        λ i. finishing (record { terms = drafted .terms-are i; clauses = drafted .clauses-are i; literals = drafted .from-is i; uncovered = n i }) (laid-out i) (o i)
+        λ i. finishing (record { terms = laid .terms-are i; clauses = laid .clauses-are i; literals = laid .from-is i; uncovered = n i }) (laid-out i) (o i)
 
     -- what the reading answers and leaves
     module _ {r : Counts} {y : Fixed} {v : Moving} (e : finishing r y v ≡ finished lim p x m) where
       ended : finishing r y v ≡ finishing (countsOf s) (fixedIn h) (movingIn (length (s .uncovered)) h)
       ended = e ∙ finished-is
 
-      pub whole-answer : R.Accepted r ≡ readLeaves lim t (readText lim text) .answer
+      pub whole-leaves : leaves (R.Accepted r) (lent (w .names) (v .words) (y .starts) (y .literals) (y .occurrenceStarts) (y .occurrences) (v .tallies .trues)
+          (v .tallies .breaks) (v .tallies .uncovered .list) (v .tallies .uncovered .places)) ≡ readLeaves lim t (accepted f)
       unfolding readLeaves
-      whole-answer = ap (λ (o : Finished). R.Accepted (o .counts)) ended ∙ sym (ap (λ q. readLeaves lim t q .answer) read-is)
-
-      pub whole-tables : lent (w .names) (v .words) (y .starts) (y .literals) (y .occurrenceStarts) (y .occurrences) (v .tallies .trues) (v .tallies .breaks)
-          (v .tallies .uncovered .list) (v .tallies .uncovered .places) ≡ readLeaves lim t (readText lim text) .tables
-      unfolding readLeaves
-      whole-tables =
+      whole-leaves =
           let g = ended in
           let n = names-are in
-          let q : lent (w .names) (v .words) (y .starts) (y .literals) (y .occurrenceStarts) (y .occurrences) (v .tallies .trues) (v .tallies .breaks)
-          (v .tallies .uncovered .list) (v .tallies .uncovered .places) ≡ h =
-          (λ i. lent (n i) (g i .moved .words) (g i .clauses .starts) (g i .clauses .literals) (g i .clauses .occurrenceStarts) (g i .clauses .occurrences)
-          (g i .moved .tallies .trues) (g i .moved .tallies .breaks) (g i .moved .tallies .uncovered .list) (g i .moved .tallies .uncovered .places)) in
-          q ∙ sym (ap (λ q. readLeaves lim t q .tables) read-is)
-
--- ---- put together from what the calls gave, as they gave it: v was answered to the tests of the text, and the draft ended by z, in the tables w
-module _ (lim : Limits) (text : List ℕ) (t : Tables) (b : Bare lim t) {v : Tested} (asked : v ≡ textTests lim text) (told : v ≡ Passed) (H : ℕ)
-    (slots-fit : H + lim .terms + 1 ≤ lim .clauses) (w : Desk) {z : Ended} (drawn : Drawn H lim text (deskIn t) w z) {p : Place} (ended : z ≡ E.Whole p)
-    (top : ℕ) (fc : lim .clauses + 1 < top) (ft : 2 * lim .terms < top) (fl : lim .literals < top) (cursors-fit : 2 * lim .terms ≤ lim .clauses) where
-  leads : Leads (readAll lim text) whole H lim (deskIn t) w p
-  leads = subst (Drawn H lim text (deskIn t) w) ended drawn
-
-  abbrev cut : Fixed
-  cut = fixed (w .starts) (w .literals) (t .occurrenceStarts) (t .occurrences)
-
-  abbrev bare : Moving
-  bare = moving (t .values) (tallies (t .trues) (w .stamps) (t .uncovered) (w .slots) 0)
-
-  pub finish-can : CanFinish top lim p cut bare
-  finish-can = can-finish lim text t b (sym asked ∙ told) H slots-fit w p leads top fc ft fl cursors-fit
-
-  pub was-whole : {r : Counts} {y : Fixed} {m : Moving} → finishing r y m ≡ finished lim p cut bare
-      → (R.Accepted r ≡ readLeaves lim t (readText lim text) .answer)
-      × (lent (w .names) (m .words) (y .starts) (y .literals) (y .occurrenceStarts) (y .occurrences) (m .tallies .trues) (m .tallies .breaks)
-      (m .tallies .uncovered .list) (m .tallies .uncovered .places)
-      ≡ readLeaves lim t (readText lim text) .tables)
-  was-whole e =
-      let h = sym asked ∙ told in (
-        whole-answer lim text t b h H slots-fit w p leads top fc ft fl cursors-fit e,
-        whole-tables lim text t b h H slots-fit w p leads top fc ft fl cursors-fit e,
-      )
+          λ i. leaves (R.Accepted (g i .counts)) (lent (n i) (g i .moved .words) (g i .clauses .starts) (g i .clauses .literals) (g i .clauses .occurrenceStarts)
+          (g i .clauses .occurrences) (g i .moved .tallies .trues) (g i .moved .tallies .breaks) (g i .moved .tallies .uncovered .list) (g i .moved .tallies .uncovered .places))

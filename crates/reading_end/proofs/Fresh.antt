@@ -32,7 +32,7 @@ use Rattle.machine.proofs.Recounted.{recounted-walking, recounted-kept}
 use Rattle.machine.proofs.Sizes.{sizes-trans, recounted-sizes}
 use Rattle.machine.proofs.Standings.{kept-trans}
 use Rattle.machine.proofs.Tallied.{talliesFor, closed-outcome}
-use Rattle.reading.proofs.Bare.{bare-at, bare-over, bare-zero, bare-past}
+use Rattle.reading_end.proofs.Bare.{bare-at, bare-over, bare-zero, bare-past}
 
 -- ---- a file in cleared tables
 
