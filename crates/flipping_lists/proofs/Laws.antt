@@ -15,15 +15,16 @@ use Rattle.written.specs.declared.Reason.the-variants.{TableTooShort, TablesDis
 use Rattle.written.specs.Tables.{Tables, lent, areFull, holding}
 use Rattle.written.specs.Agreement.{stateIn, agree}
 use Rattle.written.specs.Flips.{flipped}
-use Rattle.written.specs.Outcomes.{flipsRefused, flipsLeave, flipsOf}
+use Rattle.written.specs.Outcomes.{leaves, flipsRefused, flipsLeave, flipsOf}
 use Rattle.laws.specs.Demands.{Acceptable}
 use Rattle.laws.proofs.Basics.{by-cases}
+use Rattle.laws.proofs.Leaves.{both-left}
 use Rattle.laws.proofs.FlipCalls.{passed}
 use Rattle.machine.specs.Moving.{Moving}
 use Rattle.machine.specs.Passes.{applied, CanApply}
 use Rattle.machine.specs.Lent.{fixedIn, movingIn}
-use Rattle.machine.proofs.Tests.{said-yes}
-use Rattle.machine.proofs.Applied.{agree-applies, agree-outcome, agree-leaves, agree-few, agree-counted}
+use Rattle.laws.proofs.Tests.{said-yes}
+use Rattle.flipping_lists.proofs.Applied.{agree-applies, agree-outcome, agree-leaves, agree-few, agree-counted}
 use Rattle.written.specs.declared.Tested.{Tested}
 use Rattle.written.specs.declared.Tested.the-variants.{Passed, Failed}
 use Rattle.flipping_lists.specs.Tests.{testsOf}
@@ -57,11 +58,8 @@ module _ (lim : Limits) (ts : List ℕ) (n : Counts) (t : Tables) where
     failed : flipsOf lim ts n t ≡ flipsRefused n t e
     failed = subst Says h tests-say
 
-    pub refused-answer : F.Refused (record { reason = e; counts = n }) ≡ flipsOf lim ts n t .answer
-    refused-answer = sym (ap (λ l. l .answer) failed)
-
-    pub refused-tables : t ≡ flipsOf lim ts n t .tables
-    refused-tables = sym (ap (λ l. l .tables) failed)
+    refused-leaves : leaves (F.Refused (record { reason = e; counts = n })) t ≡ flipsOf lim ts n t
+    refused-leaves = sym failed
 
   -- where all are passed
   module _ (h : testsOf lim ts n t ≡ Passed) where
@@ -69,7 +67,7 @@ module _ (lim : Limits) (ts : List ℕ) (n : Counts) (t : Tables) where
     acceptable = subst Says h tests-say
 
     module _ (top : ℕ) (fc : lim .clauses + 1 < top) (ft : 2 * lim .terms < top) (fl : lim .literals < top) where
-      pub can-apply : CanApply top (n .clauses) (fixedIn t) ts (movingIn (n .uncovered) t)
+      can-apply : CanApply top (n .clauses) (fixedIn t) ts (movingIn (n .uncovered) t)
       can-apply = agree-applies lim top fc ft fl n t (acceptable .full) (acceptable .agrees) ts (acceptable .known)
 
       -- what the flips then leave
@@ -80,23 +78,27 @@ module _ (lim : Limits) (ts : List ℕ) (n : Counts) (t : Tables) where
         number-is : w .tallies .uncovered .number ≡ length (flipped ts (stateIn n t) .uncovered)
         number-is = ap (λ (m : Moving). m .tallies .uncovered .number) outcome
 
-        pub number-low : w .tallies .uncovered .number ≤ lim .clauses
+        number-low : w .tallies .uncovered .number ≤ lim .clauses
         number-low = rw number-is (agree-few lim top fc ft fl n t (acceptable .full) (acceptable .agrees) ts (acceptable .known))
 
-        pub answer-is : F.Applied (record { terms = n .terms; clauses = n .clauses; literals = n .literals; uncovered = w .tallies .uncovered .number }) ≡ flipsOf lim ts n t .answer
+        answer-is : F.Applied (record { terms = n .terms; clauses = n .clauses; literals = n .literals; uncovered = w .tallies .uncovered .number }) ≡ flipsOf lim ts n t .answer
         unfolding flipsLeave
         answer-is = ap F.Applied (agree-counted lim top fc ft fl n t (acceptable .full) (acceptable .agrees) ts (acceptable .known) number-is) ∙ sym (ap (λ l. l .answer) (passed lim ts n t acceptable))
 
-        pub tables-are : lent (t .names) (w .words) (t .starts) (t .literals) (t .occurrenceStarts) (t .occurrences) (w .tallies .trues) (w .tallies .breaks)
+        tables-are : lent (t .names) (w .words) (t .starts) (t .literals) (t .occurrenceStarts) (t .occurrences) (w .tallies .trues) (w .tallies .breaks)
             (w .tallies .uncovered .list) (w .tallies .uncovered .places) ≡ flipsOf lim ts n t .tables
         unfolding flipsLeave
         tables-are = agree-leaves lim top fc ft fl n t (acceptable .full) (acceptable .agrees) ts (acceptable .known) outcome ∙ sym (ap (λ l. l .tables) (passed lim ts n t acceptable))
 
+        applied-leaves : {k : Counts} → k ≡ record { terms = n .terms; clauses = n .clauses; literals = n .literals; uncovered = w .tallies .uncovered .number }
+            → leaves (F.Applied k) (lent (t .names) (w .words) (t .starts) (t .literals) (t .occurrenceStarts) (t .occurrences) (w .tallies .trues) (w .tallies .breaks)
+            (w .tallies .uncovered .list) (w .tallies .uncovered .places)) ≡ flipsOf lim ts n t
+        applied-leaves c = both-left (ap F.Applied c ∙ answer-is) tables-are
+
 -- what the tests said, as a
 module _ (lim : Limits) (ts : List ℕ) (n : Counts) (t : Tables) {a : Tested} (asked : a ≡ testsOf lim ts n t) where
-  pub was-refused : {e : Reason} → a ≡ Failed e
-      → (F.Refused (record { reason = e; counts = n }) ≡ flipsOf lim ts n t .answer) × (t ≡ flipsOf lim ts n t .tables)
-  was-refused q = (refused-answer lim ts n t (sym asked ∙ q), refused-tables lim ts n t (sym asked ∙ q))
+  pub was-refused : {e : Reason} → a ≡ Failed e → leaves (F.Refused (record { reason = e; counts = n })) t ≡ flipsOf lim ts n t
+  was-refused q = refused-leaves lim ts n t (sym asked ∙ q)
 
   module _ (q : a ≡ Passed) (top : ℕ) (fc : lim .clauses + 1 < top) (ft : 2 * lim .terms < top) (fl : lim .literals < top) where
     pub may-apply : CanApply top (n .clauses) (fixedIn t) ts (movingIn (n .uncovered) t)
@@ -107,7 +109,6 @@ module _ (lim : Limits) (ts : List ℕ) (n : Counts) (t : Tables) {a : Tested} (
       left-low = number-low lim ts n t (sym asked ∙ q) top fc ft fl e
 
       pub was-applied : {k : Counts} → k ≡ record { terms = n .terms; clauses = n .clauses; literals = n .literals; uncovered = w .tallies .uncovered .number }
-          → (F.Applied k ≡ flipsOf lim ts n t .answer)
-          × (lent (t .names) (w .words) (t .starts) (t .literals) (t .occurrenceStarts) (t .occurrences) (w .tallies .trues) (w .tallies .breaks)
-          (w .tallies .uncovered .list) (w .tallies .uncovered .places) ≡ flipsOf lim ts n t .tables)
-      was-applied c = (ap F.Applied c ∙ answer-is lim ts n t (sym asked ∙ q) top fc ft fl e, tables-are lim ts n t (sym asked ∙ q) top fc ft fl e)
+          → leaves (F.Applied k) (lent (t .names) (w .words) (t .starts) (t .literals) (t .occurrenceStarts) (t .occurrences) (w .tallies .trues) (w .tallies .breaks)
+          (w .tallies .uncovered .list) (w .tallies .uncovered .places)) ≡ flipsOf lim ts n t
+      was-applied c = applied-leaves lim ts n t (sym asked ∙ q) top fc ft fl e c

@@ -4,7 +4,7 @@ ghost use lib.Dec.{ltb};
 ghost use Rattle.written.specs.Lists.{all};
 ghost use Rattle.written.specs.Limits.{narrow};
 ghost use Rattle.written.specs.Lending.{lentBefore, lentAfter};
-ghost use Rattle.written.specs.Outcomes.{flipsOf};
+ghost use Rattle.written.specs.Outcomes.{leaves, flipsOf};
 ghost use Rattle.machine.specs.Tallies.{talliesAt, talliesBefore, talliesAfter};
 ghost use Rattle.machine.specs.Moving.{fixedAt, fixedBefore, moving};
 ghost use Rattle.machine.specs.Passes.{applied, CanApply};
@@ -149,9 +149,8 @@ pub fn apply(
     uncovered: &mut [u16],
     places: &mut [u16],
 ) -> Flipped
-    ensures { λ r. ⌜ (r ≡ flipsOf narrow (now (list .entry)) n (lentBefore names values starts literals «occurrence_starts» occurrences trues breaks uncovered places) .answer)
-        × (lentAfter names values starts literals «occurrence_starts» occurrences trues breaks uncovered places
-        ≡ flipsOf narrow (now (list .entry)) n (lentBefore names values starts literals «occurrence_starts» occurrences trues breaks uncovered places) .tables) ⌝ }
+    ensures { λ r. ⌜ leaves r (lentAfter names values starts literals «occurrence_starts» occurrences trues breaks uncovered places)
+        ≡ flipsOf narrow (now (list .entry)) n (lentBefore names values starts literals «occurrence_starts» occurrences trues breaks uncovered places) ⌝ }
 {
     match verdict(
         list,

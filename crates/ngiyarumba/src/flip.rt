@@ -2,7 +2,7 @@
 ghost use mathlib.Core.Path.{_≡_};
 ghost use Rattle.written.specs.Limits.{narrow};
 ghost use Rattle.written.specs.Lending.{lentBefore, lentAfter};
-ghost use Rattle.written.specs.Outcomes.{flipsOf};
+ghost use Rattle.written.specs.Outcomes.{leaves, told, flipsOf};
 ghost use Rattle.answers.specs.Answers.{flipAnswer, counts};
 use answers::flip::FlipAnswer;
 use written::Counts;
@@ -26,9 +26,8 @@ pub extern "C" fn ngi_flip(
     uncovered_list: &mut [u16],
     places: &mut [u16],
 ) -> FlipAnswer
-    ensures { λ r. ⌜ (r ≡ flipAnswer (flipsOf narrow (now (list .entry)) (counts terms clauses literals uncovered) (lentBefore names values starts «literals_table» «occurrence_starts» occurrences «true_counts» «break_counts» «uncovered_list» places) .answer))
-        × (lentAfter names values starts «literals_table» «occurrence_starts» occurrences «true_counts» «break_counts» «uncovered_list» places
-        ≡ flipsOf narrow (now (list .entry)) (counts terms clauses literals uncovered) (lentBefore names values starts «literals_table» «occurrence_starts» occurrences «true_counts» «break_counts» «uncovered_list» places) .tables) ⌝ }
+    ensures { λ r. ⌜ leaves r (lentAfter names values starts «literals_table» «occurrence_starts» occurrences «true_counts» «break_counts» «uncovered_list» places)
+        ≡ told flipAnswer (flipsOf narrow (now (list .entry)) (counts terms clauses literals uncovered) (lentBefore names values starts «literals_table» «occurrence_starts» occurrences «true_counts» «break_counts» «uncovered_list» places)) ⌝ }
 {
     let n = Counts {
         terms: terms,

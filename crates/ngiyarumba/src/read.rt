@@ -2,7 +2,7 @@
 ghost use mathlib.Core.Path.{_≡_};
 ghost use Rattle.written.specs.Limits.{narrow};
 ghost use Rattle.written.specs.Lending.{lentBefore, lentAfter};
-ghost use Rattle.written.specs.Outcomes.{readingOf};
+ghost use Rattle.written.specs.Outcomes.{leaves, told, readingOf};
 ghost use Rattle.answers.specs.Answers.{readAnswer};
 use answers::read::ReadAnswer;
 
@@ -21,9 +21,8 @@ pub extern "C" fn ngi_read(
     uncovered_list: &mut [u16],
     places: &mut [u16],
 ) -> ReadAnswer
-    ensures { λ r. ⌜ (r ≡ readAnswer (readingOf narrow (now (text .entry)) (lentBefore names values starts «literals_table» «occurrence_starts» occurrences «true_counts» «break_counts» «uncovered_list» places) .answer))
-        × (lentAfter names values starts «literals_table» «occurrence_starts» occurrences «true_counts» «break_counts» «uncovered_list» places
-        ≡ readingOf narrow (now (text .entry)) (lentBefore names values starts «literals_table» «occurrence_starts» occurrences «true_counts» «break_counts» «uncovered_list» places) .tables) ⌝ }
+    ensures { λ r. ⌜ leaves r (lentAfter names values starts «literals_table» «occurrence_starts» occurrences «true_counts» «break_counts» «uncovered_list» places)
+        ≡ told readAnswer (readingOf narrow (now (text .entry)) (lentBefore names values starts «literals_table» «occurrence_starts» occurrences «true_counts» «break_counts» «uncovered_list» places)) ⌝ }
 {
     let answer = reading::read(
         text,

@@ -2,7 +2,7 @@
 ghost use mathlib.Core.Path.{_≡_};
 ghost use Rattle.written.specs.Limits.{narrow};
 ghost use Rattle.written.specs.Lending.{lentBefore, lentAfter};
-ghost use Rattle.written.specs.Outcomes.{walkOf};
+ghost use Rattle.written.specs.Outcomes.{leaves, told, walkOf};
 ghost use Rattle.answers.specs.Answers.{order, counts, walkAnswer};
 use answers::walk::WalkAnswer;
 use written::Counts;
@@ -30,9 +30,8 @@ pub extern "C" fn ngi_walk(
     uncovered_list: &mut [u16],
     places: &mut [u16],
 ) -> WalkAnswer
-    ensures { λ r. ⌜ (r ≡ walkAnswer (walkOf narrow (order seed flips walks bias) (counts terms clauses literals uncovered) (lentBefore names values starts «literals_table» «occurrence_starts» occurrences «true_counts» «break_counts» «uncovered_list» places) .answer))
-        × (lentAfter names values starts «literals_table» «occurrence_starts» occurrences «true_counts» «break_counts» «uncovered_list» places
-        ≡ walkOf narrow (order seed flips walks bias) (counts terms clauses literals uncovered) (lentBefore names values starts «literals_table» «occurrence_starts» occurrences «true_counts» «break_counts» «uncovered_list» places) .tables) ⌝ }
+    ensures { λ r. ⌜ leaves r (lentAfter names values starts «literals_table» «occurrence_starts» occurrences «true_counts» «break_counts» «uncovered_list» places)
+        ≡ told walkAnswer (walkOf narrow (order seed flips walks bias) (counts terms clauses literals uncovered) (lentBefore names values starts «literals_table» «occurrence_starts» occurrences «true_counts» «break_counts» «uncovered_list» places)) ⌝ }
 {
     let o = Order {
         seed: seed,

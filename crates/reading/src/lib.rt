@@ -3,8 +3,8 @@ ghost use mathlib.Core.Path.{_≡_};
 ghost use Rattle.written.specs.Limits.{narrow};
 ghost use Rattle.written.specs.Reading.{readText};
 ghost use Rattle.written.specs.Lending.{lentAt, lentBefore, lentAfter};
-ghost use Rattle.written.specs.Outcomes.{readLeaves, readingOf};
-ghost use Rattle.reading.specs.Bare.{Bare};
+ghost use Rattle.written.specs.Outcomes.{leaves, readLeaves, readingOf};
+ghost use Rattle.reading_end.specs.Bare.{Bare};
 use reading_lines::Ended;
 use written::Fault;
 use written::Read;
@@ -26,9 +26,8 @@ fn read_cleared(
     places: &mut [u16],
 ) -> Read
     requires { ⌜ Bare narrow (lentAt names values starts literals «occurrence_starts» occurrences trues breaks uncovered places) ⌝ }
-    ensures { λ r. ⌜ (r ≡ readLeaves narrow (lentBefore names values starts literals «occurrence_starts» occurrences trues breaks uncovered places) (readText narrow (now (text .entry))) .answer)
-        × (lentAfter names values starts literals «occurrence_starts» occurrences trues breaks uncovered places
-        ≡ readLeaves narrow (lentBefore names values starts literals «occurrence_starts» occurrences trues breaks uncovered places) (readText narrow (now (text .entry))) .tables) ⌝ }
+    ensures { λ r. ⌜ leaves r (lentAfter names values starts literals «occurrence_starts» occurrences trues breaks uncovered places)
+        ≡ readLeaves narrow (lentBefore names values starts literals «occurrence_starts» occurrences trues breaks uncovered places) (readText narrow (now (text .entry))) ⌝ }
 {
     match reading_end::verdict(text) {
         Tested::Failed(reason) => {
@@ -76,9 +75,8 @@ pub fn read(
     uncovered: &mut [u16],
     places: &mut [u16],
 ) -> Read
-    ensures { λ r. ⌜ (r ≡ readingOf narrow (now (text .entry)) (lentBefore names values starts literals «occurrence_starts» occurrences trues breaks uncovered places) .answer)
-        × (lentAfter names values starts literals «occurrence_starts» occurrences trues breaks uncovered places
-        ≡ readingOf narrow (now (text .entry)) (lentBefore names values starts literals «occurrence_starts» occurrences trues breaks uncovered places) .tables) ⌝ }
+    ensures { λ r. ⌜ leaves r (lentAfter names values starts literals «occurrence_starts» occurrences trues breaks uncovered places)
+        ≡ readingOf narrow (now (text .entry)) (lentBefore names values starts literals «occurrence_starts» occurrences trues breaks uncovered places) ⌝ }
 {
     if !tables::are_full(
         names,

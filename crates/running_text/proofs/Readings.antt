@@ -20,11 +20,12 @@ use Rattle.written.specs.Reading.{Reading, accepted, refused, readText}
 use Rattle.written.specs.Tables.{Tables, over}
 use Rattle.written.specs.Agreement.{fileIn, stateIn}
 use Rattle.written.specs.Walk.{walkOver}
-use Rattle.written.specs.Outcomes.{readingOf}
+use Rattle.written.specs.Outcomes.{leaves, readingOf}
 use Rattle.written.specs.Printed.{refusal}
 use Rattle.written.specs.Program.{Ran, walked, afterReading, said, tablesAfter, ran}
 use Rattle.laws.specs.Calls.{Stands}
 use Rattle.laws.proofs.Basics.{by-lt}
+use Rattle.laws.proofs.Leaves.{the-answer, the-tables}
 use Rattle.laws.proofs.Faults.{refusal-line-bound}
 use Rattle.laws.proofs.Holding.{holding-by}
 use Rattle.laws.proofs.Stands.{stands-allowed}
@@ -48,8 +49,15 @@ refused-line : (lim : Limits) (text : List ℕ) (e : Fault) → readText lim tex
 refused-line lim text e q =
     by-lt (lim .text) (length text) (λ l. omega (arith, ap lineIn (sym q ∙ long-text lim text l))) (λ s. omega (arith, refusal-line-bound lim text e q))
 
-module _ (lim : Limits) (o : Order) (text : List ℕ) (t : Tables) (b : List ℕ) (can : CanRead lim o t b) where
-  module _ (e : Fault) {a : Read} (answer : a ≡ readingOf lim text t .answer) (told : a ≡ R.Refused e) where
+-- a reading that answered a and left u
+module _ (lim : Limits) (o : Order) (text : List ℕ) (t : Tables) (b : List ℕ) (can : CanRead lim o t b) {a : Read} {u : Tables} (read : leaves a u ≡ readingOf lim text t) where
+  answer : a ≡ readingOf lim text t .answer
+  answer = the-answer read
+
+  tables : u ≡ readingOf lim text t .tables
+  tables = the-tables read
+
+  module _ (e : Fault) (told : a ≡ R.Refused e) where
     emptied : Emptied lim text t e (readingOf lim text t .tables)
     emptied = by-fullness (reading-refused lim text t e (sym answer ∙ told))
       where
@@ -60,13 +68,12 @@ module _ (lim : Limits) (o : Order) (text : List ℕ) (t : Tables) (b : List ℕ
     pub refused-fits : lim .text + 1 < 10 ^ 20 → CanPut (refusal e) (page 0 b)
     refused-fits short = refusal-room lim t b (can .run) e short (omega (arith, refused-line lim text e (emptied .read)))
 
-    pub refused-ends : {r : ℕ} {u : Tables} {out : List ℕ} → u ≡ readingOf lim text t .tables → page r out ≡ put (refusal e) (page 0 b)
+    pub refused-ends : {r : ℕ} {out : List ℕ} → page r out ≡ put (refusal e) (page 0 b)
         → ended r u out ≡ ran lim t b (afterReading o (readText lim text))
     unfolding afterReading said tablesAfter
-    refused-ends tables written = rw (emptied .read) (ended-by lim t b (afterReading o (refused e)) (tables ∙ emptied .left) written)
+    refused-ends written = rw (emptied .read) (ended-by lim t b (afterReading o (refused e)) (tables ∙ emptied .left) written)
 
-  module _ (n : Counts) {a : Read} (answer : a ≡ readingOf lim text t .answer) (told : a ≡ R.Accepted n) {u : Tables}
-      (tables : u ≡ readingOf lim text t .tables) where
+  module _ (n : Counts) (told : a ≡ R.Accepted n) where
     abbrev file : File
     file = reading-accepted lim text t n (sym answer ∙ told) .0
 

@@ -10,10 +10,11 @@ use Rattle.written.specs.Limits.{Limits}
 use Rattle.written.specs.Tables.{Tables}
 use Rattle.written.specs.Agreement.{fileIn, stateIn}
 use Rattle.written.specs.Walk.{Outcome, walkOver}
-use Rattle.written.specs.Outcomes.{walkLeaves}
+use Rattle.written.specs.Outcomes.{leaves, walkLeaves}
 use Rattle.written.specs.Printed.{report}
 use Rattle.written.specs.Program.{walked, said, tablesAfter, ran}
 use Rattle.laws.specs.Valid.{Proper, Valid}
+use Rattle.laws.proofs.Leaves.{the-answer, the-tables}
 use Rattle.laws.proofs.Agreeing.{agree-valid}
 use Rattle.laws.proofs.Valids.{end-valid}
 use Rattle.laws.proofs.Sheets.{ranged}
@@ -27,7 +28,13 @@ use Rattle.running_text.proofs.Ends.{ended-by, fits}
 
 -- an answer a and tables u that the walks have given
 module _ (lim : Limits) (o : Order) (n : Counts) (t : Tables) (b : List ℕ) (can : CanWalk lim o n t b) {a : Walked} {u : Tables}
-    (answer : a ≡ walkMade lim o n t .answer) (tables : u ≡ walkMade lim o n t .tables) where
+    (made : leaves a u ≡ walkMade lim o n t) where
+  answer : a ≡ walkMade lim o n t .answer
+  answer = the-answer made
+
+  tables : u ≡ walkMade lim o n t .tables
+  tables = the-tables made
+
   abbrev outcome : Outcome
   outcome = walkOver o (fileIn n t)
 

@@ -3,6 +3,7 @@ use mathlib.Core.Path.{refl, ap}
 use Rattle.settled.specs.Outcomes.{Public}
 use Rattle.settled.proofs.Facts.{meet, same, both, ten, five}
 use Rattle.written.specs.Program.{Ran}
+use Rattle.laws.proofs.Leaves.{the-answer}
 use Rattle.tables.proofs.are_full as are-full
 use Rattle.agreeing.proofs.agrees as agrees
 use Rattle.reading.proofs.read as read
@@ -26,13 +27,13 @@ pub agrees-settled : Public agrees.ended (λ M. agrees.clauses)
 agrees-settled M 𝓤 H A mem run κs a g = record { asks-nothing = refl; one-outcome = λ x y. both 𝓤 (λ p q. same (meet p q) refl) }
 
 pub read-settled : Public read.ended (λ M. read.clauses)
-read-settled M 𝓤 H A mem run κs a g = record { asks-nothing = refl; one-outcome = λ x y. both 𝓤 (λ p q. same (meet (p .0) (q .0)) (ap (λ t. (tt, ten t tt)) (meet (p .1) (q .1)))) }
+read-settled M 𝓤 H A mem run κs a g = record { asks-nothing = refl; one-outcome = λ x y. both 𝓤 (λ p q. let e = meet p q in same (the-answer e) (ap (λ l. (tt, ten (l .tables) tt)) e)) }
 
 pub apply-settled : Public apply.ended (λ M. apply.clauses)
-apply-settled M 𝓤 H A mem run κs a g = record { asks-nothing = refl; one-outcome = λ x y. both 𝓤 (λ p q. same (meet (p .0) (q .0)) (ap (λ t. (tt, (tt, five t tt))) (meet (p .1) (q .1)))) }
+apply-settled M 𝓤 H A mem run κs a g = record { asks-nothing = refl; one-outcome = λ x y. both 𝓤 (λ p q. let e = meet p q in same (the-answer e) (ap (λ l. (tt, (tt, five (l .tables) tt))) e)) }
 
 pub walk-settled : Public walk.ended (λ M. walk.clauses)
-walk-settled M 𝓤 H A mem run κs a g = record { asks-nothing = refl; one-outcome = λ x y. both 𝓤 (λ p q. same (meet (p .0) (q .0)) (ap (λ t. (tt, (tt, five t tt))) (meet (p .1) (q .1)))) }
+walk-settled M 𝓤 H A mem run κs a g = record { asks-nothing = refl; one-outcome = λ x y. both 𝓤 (λ p q. let e = meet p q in same (the-answer e) (ap (λ l. (tt, (tt, five (l .tables) tt))) e)) }
 
 pub sheet-settled : Public sheet.ended (λ M. sheet.clauses)
 sheet-settled M 𝓤 H A mem run κs a g = record { asks-nothing = refl; one-outcome = λ x y. both 𝓤 (λ p q. same (meet p q) refl) }
@@ -53,13 +54,13 @@ pub ngi-heads-settled : Public ngi-heads.ended (λ M. ngi-heads.clauses)
 ngi-heads-settled M 𝓤 H A mem run κs a g = record { asks-nothing = refl; one-outcome = λ x y. both 𝓤 (λ p q. same (meet p q) refl) }
 
 pub ngi-read-settled : Public ngi-read.ended (λ M. ngi-read.clauses)
-ngi-read-settled M 𝓤 H A mem run κs a g = record { asks-nothing = refl; one-outcome = λ x y. both 𝓤 (λ p q. same (meet (p .0) (q .0)) (ap (λ t. (tt, ten t tt)) (meet (p .1) (q .1)))) }
+ngi-read-settled M 𝓤 H A mem run κs a g = record { asks-nothing = refl; one-outcome = λ x y. both 𝓤 (λ p q. let e = meet p q in same (the-answer e) (ap (λ l. (tt, ten (l .tables) tt)) e)) }
 
 pub ngi-walk-settled : Public ngi-walk.ended (λ M. ngi-walk.clauses)
-ngi-walk-settled M 𝓤 H A mem run κs a g = record { asks-nothing = refl; one-outcome = λ x y. both 𝓤 (λ p q. same (meet (p .0) (q .0)) (ap (λ t. (tt, (tt, (tt, (tt, (tt, (tt, (tt, (tt, five t tt))))))))) (meet (p .1) (q .1)))) }
+ngi-walk-settled M 𝓤 H A mem run κs a g = record { asks-nothing = refl; one-outcome = λ x y. both 𝓤 (λ p q. let e = meet p q in same (the-answer e) (ap (λ l. (tt, (tt, (tt, (tt, (tt, (tt, (tt, (tt, five (l .tables) tt))))))))) e)) }
 
 pub ngi-flip-settled : Public ngi-flip.ended (λ M. ngi-flip.clauses)
-ngi-flip-settled M 𝓤 H A mem run κs a g = record { asks-nothing = refl; one-outcome = λ x y. both 𝓤 (λ p q. same (meet (p .0) (q .0)) (ap (λ t. (tt, (tt, (tt, (tt, (tt, five t tt)))))) (meet (p .1) (q .1)))) }
+ngi-flip-settled M 𝓤 H A mem run κs a g = record { asks-nothing = refl; one-outcome = λ x y. both 𝓤 (λ p q. let e = meet p q in same (the-answer e) (ap (λ l. (tt, (tt, (tt, (tt, (tt, five (l .tables) tt)))))) e)) }
 
 pub ngi-run-settled : Public ngi-run.ended (λ M. ngi-run.clauses)
 ngi-run-settled M 𝓤 H A mem run κs a g = record { asks-nothing = refl; one-outcome = λ x y. both 𝓤 (λ p q. let e = meet p q in same (ap (λ (r : Ran). r .answer) e) (ap (λ (r : Ran). (tt, ten (r .tables) (r .buffer, tt))) e)) }

@@ -12,6 +12,7 @@ use Rattle.running_report.specs.Pages.{Page}
 use Rattle.written.specs.Program.{Ran}
 use Rattle.settled.specs.Outcomes.{Public, Inner}
 use Rattle.settled.proofs.Facts.{meet, same, both, all-three, ten, five}
+use Rattle.laws.proofs.Leaves.{the-answer}
 use Rattle.tables.proofs.true_count as true-count
 use Rattle.tables.proofs.xor_true as xor-true
 use Rattle.tables.proofs.one_for as one-for
@@ -100,7 +101,7 @@ pub chosen-from-settled : Inner chosen-from.ended (λ M. chosen-from.clauses)
 chosen-from-settled M 𝓤 H A mem run κs a g = record { one-outcome = λ x y. all-three 𝓤 (λ r p q. let e = meet p q in same (λ i. record { entry = e i .picked; next = record { state = e i .state } }) refl) }
 
 pub walk-tested-settled : Inner walk-tested.ended (λ M. walk-tested.clauses)
-walk-tested-settled M 𝓤 H A mem run κs a g = record { one-outcome = λ x y. all-three 𝓤 (λ r p q. same (meet (p .0) (q .0)) (ap (λ t. (tt, (tt, five t tt))) (meet (p .1) (q .1)))) }
+walk-tested-settled M 𝓤 H A mem run κs a g = record { one-outcome = λ x y. all-three 𝓤 (λ r p q. let e = meet p q in same (the-answer e) (ap (λ l. (tt, (tt, five (l .tables) tt))) e)) }
 
 pub verdict-settled : Public verdict.ended (λ M. verdict.clauses)
 verdict-settled M 𝓤 H A mem run κs a g = record { asks-nothing = refl; one-outcome = λ x y. both 𝓤 (λ p q. same (meet p q) refl) }

@@ -16,10 +16,11 @@ use Rattle.written.specs.Tables.{Tables, lent, each, fullSizes, inUse, tablesOf
 use Rattle.written.specs.Agreement.{fileIn, stateIn}
 use Rattle.written.specs.Orders.{flipsEach, walksAll}
 use Rattle.written.specs.Walk.{Moment, Outcome, start, walksFrom, walkOver}
-use Rattle.written.specs.Outcomes.{tour, walkLeaves}
+use Rattle.written.specs.Outcomes.{leaves, tour, walkLeaves}
 use Rattle.laws.specs.Valid.{Valid}
 use Rattle.laws.specs.WalkCalls.{Allowed}
 use Rattle.laws.proofs.Sheets.{ranged}
+use Rattle.laws.proofs.Leaves.{both-left}
 use Rattle.laws.proofs.Endings.{end-file, end-values}
 use Rattle.machine.specs.Tallies.{Tallies, SameSizes}
 use Rattle.machine.specs.Moving.{Moving}
@@ -169,17 +170,27 @@ module _ (lim : Limits) (o : Order) (n : Counts) (t : Tables) (ok : Allowed lim 
           let c = agreed.counted-are lim n t (ok .full) (ok .agrees) r same-file number-is in
           λ i. record { walks = a i; flips = b i; counts = c i }
 
-      pub found-answer : e .found ≡ true → W.Found made ≡ walkMade lim o n t .answer
+      found-answer : e .found ≡ true → W.Found made ≡ walkMade lim o n t .answer
       unfolding walkLeaves
       found-answer q = rw (sym (ends .found) ∙ q) (ap W.Found tour-is)
 
-      pub gave-up-answer : e .found ≡ false → W.GaveUp made ≡ walkMade lim o n t .answer
+      gave-up-answer : e .found ≡ false → W.GaveUp made ≡ walkMade lim o n t .answer
       unfolding walkLeaves
       gave-up-answer q = rw (sym (ends .found) ∙ q) (ap W.GaveUp tour-is)
 
       -- and what is left, once the places are those of written tables
-      pub tables-are : {ps : List ℕ} → ps ≡ rewritten (restPlace (e .last .tables .tallies .trues)) (n .clauses) (e .last .tables .tallies .uncovered .places)
-          → lent (t .names) (e .last .tables .words) (t .starts) (t .literals) (t .occurrenceStarts) (t .occurrences) (e .last .tables .tallies .trues)
-          (e .last .tables .tallies .breaks) (e .last .tables .tallies .uncovered .list) ps ≡ walkMade lim o n t .tables
-      unfolding walkLeaves
-      tables-are q = agreed.leaves-are lim n t (ok .full) (ok .agrees) r same-file (is-closed (n .clauses) (e .last .tables) q ∙ closed-now)
+      module _ {ps : List ℕ} (q : ps ≡ rewritten (restPlace (e .last .tables .tallies .trues)) (n .clauses) (e .last .tables .tallies .uncovered .places)) where
+        abbrev after : Tables
+        after =
+            lent (t .names) (e .last .tables .words) (t .starts) (t .literals) (t .occurrenceStarts) (t .occurrences) (e .last .tables .tallies .trues)
+            (e .last .tables .tallies .breaks) (e .last .tables .tallies .uncovered .list) ps
+
+        tables-are : after ≡ walkMade lim o n t .tables
+        unfolding walkLeaves
+        tables-are = agreed.leaves-are lim n t (ok .full) (ok .agrees) r same-file (is-closed (n .clauses) (e .last .tables) q ∙ closed-now)
+
+        pub has-found : e .found ≡ true → leaves (W.Found made) after ≡ walkMade lim o n t
+        has-found so = both-left (found-answer so) tables-are
+
+        pub has-given-up : e .found ≡ false → leaves (W.GaveUp made) after ≡ walkMade lim o n t
+        has-given-up so = both-left (gave-up-answer so) tables-are

@@ -5,6 +5,7 @@ ghost use Prim.Native.Nat.{_^_};
 ghost use lib.ListN.{length};
 ghost use Rattle.written.specs.Limits.{narrow};
 ghost use Rattle.written.specs.Lending.{lentAt, lentBefore, lentAfter};
+ghost use Rattle.written.specs.Outcomes.{leaves};
 ghost use Rattle.laws.specs.WalkCalls.{Allowed};
 ghost use Rattle.machine.specs.Tallies.{talliesAt, talliesBefore, talliesAfter};
 ghost use Rattle.machine.specs.Moving.{fixedAt, fixedBefore};
@@ -97,9 +98,8 @@ pub fn walk_tested(
     places: &mut [u16],
 ) -> Walked
     requires { ⌜ Allowed narrow order n (lentAt names values starts literals «occurrence_starts» occurrences trues breaks uncovered places) ⌝ }
-    ensures { λ r. ⌜ (r ≡ walkMade narrow order n (lentBefore names values starts literals «occurrence_starts» occurrences trues breaks uncovered places) .answer)
-        × (lentAfter names values starts literals «occurrence_starts» occurrences trues breaks uncovered places
-        ≡ walkMade narrow order n (lentBefore names values starts literals «occurrence_starts» occurrences trues breaks uncovered places) .tables) ⌝ }
+    ensures { λ r. ⌜ leaves r (lentAfter names values starts literals «occurrence_starts» occurrences trues breaks uncovered places)
+        ≡ walkMade narrow order n (lentBefore names values starts literals «occurrence_starts» occurrences trues breaks uncovered places) ⌝ }
 {
     let mut ties = [0u16; 2048];
     let e = all_walks(

@@ -1,5 +1,5 @@
 -- The tests of a walk decide what it answers and leaves. Assumes nothing.
-use mathlib.Core.Path.{_≡_, ap, sym, subst, _∙_}
+use mathlib.Core.Path.{_≡_, sym, subst, _∙_}
 use Rattle.written.specs.declared.Counts.{Counts}
 use Rattle.written.specs.declared.Order.{Order}
 use Rattle.written.specs.declared.Walked.{Walked}
@@ -9,7 +9,7 @@ use Rattle.written.specs.Limits.{Limits}
 use Rattle.written.specs.Tables.{Tables, areFull}
 use Rattle.written.specs.Agreement.{agree}
 use Rattle.written.specs.Orders.{inRange}
-use Rattle.written.specs.Outcomes.{Leaves, walkOf}
+use Rattle.written.specs.Outcomes.{Leaves, leaves, walkOf}
 use Rattle.laws.specs.WalkCalls.{Allowed, Fails}
 use Rattle.laws.specs.WalkCalls.Fails.{short, outside, disagree}
 use Rattle.laws.proofs.Basics.{by-cases}
@@ -39,32 +39,24 @@ module _ (lim : Limits) (o : Order) (n : Counts) (t : Tables) where
     fails : Fails lim o n t e
     fails = subst Says h tests-say
 
-    pub refused-answer : W.Refused (record { reason = e; counts = n }) ≡ walkOf lim o n t .answer
-    refused-answer = sym (ap (λ (l : Leaves Walked). l .answer) (failed lim o n t e fails))
-
-    pub refused-tables : t ≡ walkOf lim o n t .tables
-    refused-tables = sym (ap (λ (l : Leaves Walked). l .tables) (failed lim o n t e fails))
+    refused-leaves : leaves (W.Refused (record { reason = e; counts = n })) t ≡ walkOf lim o n t
+    refused-leaves = sym (failed lim o n t e fails)
 
   -- where all are passed, the walks are made
   module _ (h : testsOf lim o n t ≡ Passed) where
-    pub passed-allowed : Allowed lim o n t
+    passed-allowed : Allowed lim o n t
     passed-allowed = subst Says h tests-say
 
-    pub made-answer : {r : Walked} → r ≡ walkMade lim o n t .answer → r ≡ walkOf lim o n t .answer
-    made-answer q = q ∙ sym (ap (λ (l : Leaves Walked). l .answer) (passed lim o n t passed-allowed))
-
-    pub made-tables : {u : Tables} → u ≡ walkMade lim o n t .tables → u ≡ walkOf lim o n t .tables
-    made-tables q = q ∙ sym (ap (λ (l : Leaves Walked). l .tables) (passed lim o n t passed-allowed))
+    made-leaves : {l : Leaves Walked} → l ≡ walkMade lim o n t → l ≡ walkOf lim o n t
+    made-leaves q = q ∙ sym (passed lim o n t passed-allowed)
 
 -- what the tests said, as a
 module _ (lim : Limits) (o : Order) (n : Counts) (t : Tables) {a : Tested} (asked : a ≡ testsOf lim o n t) where
-  pub was-refused : {e : Reason} → a ≡ Failed e
-      → (W.Refused (record { reason = e; counts = n }) ≡ walkOf lim o n t .answer) × (t ≡ walkOf lim o n t .tables)
-  was-refused q = (refused-answer lim o n t (sym asked ∙ q), refused-tables lim o n t (sym asked ∙ q))
+  pub was-refused : {e : Reason} → a ≡ Failed e → leaves (W.Refused (record { reason = e; counts = n })) t ≡ walkOf lim o n t
+  was-refused q = refused-leaves lim o n t (sym asked ∙ q)
 
   pub was-allowed : a ≡ Passed → Allowed lim o n t
   was-allowed q = passed-allowed lim o n t (sym asked ∙ q)
 
-  pub was-made : a ≡ Passed → {r : Walked} {u : Tables} → (r ≡ walkMade lim o n t .answer) × (u ≡ walkMade lim o n t .tables)
-      → (r ≡ walkOf lim o n t .answer) × (u ≡ walkOf lim o n t .tables)
-  was-made q e = (made-answer lim o n t (sym asked ∙ q) (e .0), made-tables lim o n t (sym asked ∙ q) (e .1))
+  pub was-made : a ≡ Passed → {l : Leaves Walked} → l ≡ walkMade lim o n t → l ≡ walkOf lim o n t
+  was-made q = made-leaves lim o n t (sym asked ∙ q)

@@ -3,7 +3,7 @@ ghost use mathlib.Core.Path.{_≡_};
 ghost use Rattle.written.specs.Limits.{narrow};
 ghost use Rattle.written.specs.Lending.{lentBefore, lentAfter};
 ghost use Rattle.written.specs.Orders.{inRange};
-ghost use Rattle.written.specs.Outcomes.{walkOf};
+ghost use Rattle.written.specs.Outcomes.{leaves, walkOf};
 ghost use Rattle.walking_call.specs.Tests.{testsOf};
 use written::Counts;
 use written::Order;
@@ -98,9 +98,8 @@ pub fn walk(
     uncovered: &mut [u16],
     places: &mut [u16],
 ) -> Walked
-    ensures { λ r. ⌜ (r ≡ walkOf narrow order n (lentBefore names values starts literals «occurrence_starts» occurrences trues breaks uncovered places) .answer)
-        × (lentAfter names values starts literals «occurrence_starts» occurrences trues breaks uncovered places
-        ≡ walkOf narrow order n (lentBefore names values starts literals «occurrence_starts» occurrences trues breaks uncovered places) .tables) ⌝ }
+    ensures { λ r. ⌜ leaves r (lentAfter names values starts literals «occurrence_starts» occurrences trues breaks uncovered places)
+        ≡ walkOf narrow order n (lentBefore names values starts literals «occurrence_starts» occurrences trues breaks uncovered places) ⌝ }
 {
     match verdict(
         order,

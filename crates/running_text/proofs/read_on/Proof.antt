@@ -10,30 +10,27 @@ refusal-requires : tie.Need-refusal-requires
 refusal-requires c κs =
     let told = c .before .before in
     let made = told .before .before .before .before .before .before .before .before .before .before .before .before .before .before .before .before .before .before .before .before .before .before in
-    refused-fits narrow _ _ _ _ (made .before .before .before .before .before .before .before .before .before .before .before .before .before .before .before .before .before .before .before .before .before .before .before .pre) _ (made .read .ensures .0) (told .e .given .1) (omega arith)
+    refused-fits narrow _ _ _ _ (made .before .before .before .before .before .before .before .before .before .before .before .before .before .before .before .before .before .before .before .before .before .before .before .pre) (made .read .ensures) _ (told .e .given .1) (omega arith)
 
 walk-on-requires : tie.Need-walk-on-requires
 walk-on-requires c κs =
     let told = c .before .before .before .before .before .before .before .before .before .before .before .before in
     let made = told .before .before .before .before .before .before .before .before .before .before .before .before .before .before .before .before .before .before .before .before .before .before in
-    let e = made .read .ensures in
-    accepted-walks narrow _ _ _ _ (made .before .before .before .before .before .before .before .before .before .before .before .before .before .before .before .before .before .before .before .before .before .before .before .pre) _ (e .0) (told .n .given .1) (e .1)
+    accepted-walks narrow _ _ _ _ (made .before .before .before .before .before .before .before .before .before .before .before .before .before .before .before .before .before .before .before .before .before .before .before .pre) (made .read .ensures) _ (told .n .given .1)
 
 returns : tie.Need-returns
 returns c =
     let said = c .before .before in
     let told = said .before .before .before in
     let made = told .before .before .before .before .before .before .before .before .before .before .before .before .before .before .before .before .before .before .before .before .before .before in
-    let e = made .read .ensures in
-    refused-ends narrow _ _ _ _ (made .before .before .before .before .before .before .before .before .before .before .before .before .before .before .before .before .before .before .before .before .before .before .before .pre) _ (e .0) (told .e .given .1) (e .1) (said .refusal .ensures)
+    refused-ends narrow _ _ _ _ (made .before .before .before .before .before .before .before .before .before .before .before .before .before .before .before .before .before .before .before .before .before .before .before .pre) (made .read .ensures) _ (told .e .given .1) (said .refusal .ensures)
 
 returns-2 : tie.Need-returns-2
 returns-2 c =
     let done = c .before .before .before .before .before .before .before .before .before .before .before .before in
     let told = done .before .before .before .before .before .before .before .before .before .before .before .before .before in
     let made = told .before .before .before .before .before .before .before .before .before .before .before .before .before .before .before .before .before .before .before .before .before .before in
-    let e = made .read .ensures in
-    accepted-ends narrow _ _ _ _ (made .before .before .before .before .before .before .before .before .before .before .before .before .before .before .before .before .before .before .before .before .before .before .before .pre) _ (e .0) (told .n .given .1) (e .1) (done .walk-on .ensures)
+    accepted-ends narrow _ _ _ _ (made .before .before .before .before .before .before .before .before .before .before .before .before .before .before .before .before .before .before .before .before .before .before .before .pre) (made .read .ensures) _ (told .n .given .1) (done .walk-on .ensures)
 
 pub read-on-spec : {M : Type 1} → statement M
 read-on-spec =

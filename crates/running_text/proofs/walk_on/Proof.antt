@@ -8,15 +8,13 @@ use Rattle.running_text.proofs.walk_on.Tie as tie
 report-requires : tie.Need-report-requires
 report-requires c κs =
     let made = c .before .before .before .before .before .before .before .before .before .before .before .before in
-    let e = made .walk-tested .ensures in
-    walk-reports narrow _ _ _ _ (made .before .before .before .before .before .before .before .before .before .before .before .before .before .before .before .before .before .pre) (e .0) (e .1) (omega arith)
+    walk-reports narrow _ _ _ _ (made .before .before .before .before .before .before .before .before .before .before .before .before .before .before .before .before .before .pre) (made .walk-tested .ensures) (omega arith)
 
 returns : tie.Need-returns
 returns c =
     let said = c .before .before in
     let made = said .before .before .before .before .before .before .before .before .before .before .before .before .before in
-    let e = made .walk-tested .ensures in
-    walk-ends narrow _ _ _ _ (made .before .before .before .before .before .before .before .before .before .before .before .before .before .before .before .before .before .pre) (e .0) (e .1) (said .report .ensures)
+    walk-ends narrow _ _ _ _ (made .before .before .before .before .before .before .before .before .before .before .before .before .before .before .before .before .before .pre) (made .walk-tested .ensures) (said .report .ensures)
 
 pub walk-on-spec : {M : Type 1} → statement M
 walk-on-spec =

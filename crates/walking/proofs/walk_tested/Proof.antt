@@ -4,7 +4,7 @@ use mathlib.Core.Path.{refl, _∙_}
 use native.Mathlib.Omega.{arith}
 use borrow.Author.Needs.{needs}
 use Rattle.written.specs.Limits.{narrow}
-use Rattle.walking.proofs.Outcome.{can-walk, can-close, number-low, found-answer, gave-up-answer, tables-are}
+use Rattle.walking.proofs.Outcome.{can-walk, can-close, number-low, has-found, has-given-up}
 use Rattle.walking.proofs.walk_tested.Statement.{statement}
 use Rattle.walking.proofs.walk_tested.Tie as tie
 
@@ -22,14 +22,14 @@ returns c =
     let p = c .before .before .before .before .before .before .before .before .before .before .before .before .before .before .before .before .before .before .before .before .before .before .before .before .before .before .before .before .before .before .before .before .before .before .before .before .before .before .before .pre in
     let y = c .before .before .before .before .before .before .before .before .before .before .before .before .before .before .before .before .before .before .before .before .before .new .ensures in
     let e = c .before .before .before .before .before .before .before .before .before .before .before .before .before .before .before .before .before .before .before .before .all-walks .ensures in
-    (found-answer narrow _ _ _ p y 65536 (omega arith) (omega arith) (omega arith) e (c .if1 .taken), tables-are narrow _ _ _ p y 65536 (omega arith) (omega arith) (omega arith) e (c .before .before .before .before .before .close-all .ensures))
+    has-found narrow _ _ _ p y 65536 (omega arith) (omega arith) (omega arith) e (c .before .before .before .before .before .close-all .ensures) (c .if1 .taken)
 
 returns-2 : tie.Need-returns-2
 returns-2 c =
     let p = c .before .before .before .before .before .before .before .before .before .before .before .before .before .before .before .before .before .before .before .before .before .before .before .before .before .before .before .before .before .before .before .before .before .before .before .before .before .before .before .pre in
     let y = c .before .before .before .before .before .before .before .before .before .before .before .before .before .before .before .before .before .before .before .before .before .new .ensures in
     let e = c .before .before .before .before .before .before .before .before .before .before .before .before .before .before .before .before .before .before .before .before .all-walks .ensures in
-    (gave-up-answer narrow _ _ _ p y 65536 (omega arith) (omega arith) (omega arith) e (c .if1 .left), tables-are narrow _ _ _ p y 65536 (omega arith) (omega arith) (omega arith) e (c .before .before .before .before .before .close-all .ensures))
+    has-given-up narrow _ _ _ p y 65536 (omega arith) (omega arith) (omega arith) e (c .before .before .before .before .before .close-all .ensures) (c .if1 .left)
 
 pub walk-tested-spec : {M : Type 1} → statement M
 walk-tested-spec =

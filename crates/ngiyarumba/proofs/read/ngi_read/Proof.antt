@@ -1,12 +1,12 @@
 -- `ngiyarumba::read::ngi_read` meets its contract: it is `reading::read`, its answer taken apart. Assumes nothing.
-use mathlib.Core.Path.{ap, _∙_}
 use borrow.Author.Needs.{needs}
+use Rattle.laws.proofs.Leaves.{told-as}
 use Rattle.answers.specs.Answers.{readAnswer}
 use Rattle.ngiyarumba.proofs.read.ngi_read.Statement.{statement}
 use Rattle.ngiyarumba.proofs.read.ngi_read.Tie as tie
 
 returns : tie.Need-returns
-returns c = let e = c .before .before .before .before .before .before .before .before .before .before .before .before .before .before .before .before .before .before .before .before .before .read .ensures in (c .read-answer .ensures ∙ ap readAnswer (e .0), e .1)
+returns c = told-as readAnswer (c .read-answer .ensures) (c .before .before .before .before .before .before .before .before .before .before .before .before .before .before .before .before .before .before .before .before .before .read .ensures)
 
 pub ngi-read-spec : {M : Type 1} → statement M
 ngi-read-spec =

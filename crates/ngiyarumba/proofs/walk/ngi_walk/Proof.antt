@@ -1,12 +1,12 @@
 -- `ngiyarumba::walk::ngi_walk` meets its contract: it is `walking_call::walk`, its answer taken apart. Assumes nothing.
-use mathlib.Core.Path.{ap, _∙_}
 use borrow.Author.Needs.{needs}
+use Rattle.laws.proofs.Leaves.{told-as}
 use Rattle.answers.specs.Answers.{walkAnswer}
 use Rattle.ngiyarumba.proofs.walk.ngi_walk.Statement.{statement}
 use Rattle.ngiyarumba.proofs.walk.ngi_walk.Tie as tie
 
 returns : tie.Need-returns
-returns c = let e = c .before .before .before .before .before .before .before .before .before .before .before .walk .ensures in (c .walk-answer .ensures ∙ ap walkAnswer (e .0), e .1)
+returns c = told-as walkAnswer (c .walk-answer .ensures) (c .before .before .before .before .before .before .before .before .before .before .before .walk .ensures)
 
 pub ngi-walk-spec : {M : Type 1} → statement M
 ngi-walk-spec =
