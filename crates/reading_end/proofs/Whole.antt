@@ -28,7 +28,7 @@ use Rattle.machine.proofs.Opened.{close-can}
 use Rattle.reading_lines.specs.declared.Place.{Place}
 use Rattle.reading_lines.specs.Drafting.{Desk, desk}
 use Rattle.reading_end.specs.Clearing.{deskIn, wiped, restZeroed}
-use Rattle.reading_end.specs.Finishing.{Finished, finishing, tidyClauses, tidyMoving, turned, laidOut, countedOut, countsAt, finished, CanFinish}
+use Rattle.reading_end.specs.Finishing.{finishing, tidyClauses, tidyMoving, turned, laidOut, countedOut, countsAt, finished, CanFinish}
 use Rattle.reading_end.specs.Laid.{Past, Laid}
 use Rattle.reading_end.specs.Bare.{Bare}
 use Rattle.reading_end.proofs.Bare.{bare-back}

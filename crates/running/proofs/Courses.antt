@@ -25,7 +25,7 @@ use Rattle.running_input.proofs.Courses.{Says, outset-says}
 use Rattle.reading_lines.specs.Drafting.{Desk}
 use Rattle.reading_end.specs.Clearing.{Others, wiped, wipedOthers, deskIn, othersIn}
 use Rattle.reading_end.proofs.Cleared.{both-wiped, blanked-is}
-use Rattle.running_report.specs.Pages.{page, put, CanPut}
+use Rattle.pages.specs.Pages.{page, put, CanPut}
 use Rattle.running_text.specs.Running.{answered, ended, CanRun, CanRead}
 use Rattle.running_text.proofs.Ends.{ended-by, refusal-room}
 

@@ -14,7 +14,7 @@ use Rattle.written.specs.Tables.{Tables, areFull}
 use Rattle.written.specs.Program.{courseOf, printed, reportSize, ran, runOf}
 use Rattle.laws.proofs.Basics.{by-lt}
 use Rattle.laws.proofs.RunCalls.{run-ran}
-use Rattle.running_report.specs.Pages.{Page, page, put}
+use Rattle.pages.specs.Pages.{Page, page, put}
 use Rattle.running_text.specs.Running.{answered}
 use Rattle.running_text.proofs.Ends.{front}
 use Rattle.running_alone.specs.Seeing.{CanSee, endTold, seenWhole, shownOf, Within}

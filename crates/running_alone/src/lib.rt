@@ -4,7 +4,7 @@ ghost use Prim.Native.Nat.{_≤_};
 ghost use lib.ListN.{length};
 ghost use Rattle.written.specs.Limits.{narrow};
 ghost use Rattle.written.specs.Program.{printed, reportSize};
-ghost use Rattle.running_report.specs.Pages.{page, put};
+ghost use Rattle.pages.specs.Pages.{page, put};
 ghost use Rattle.running_alone.specs.Seeing.{endTold, CanSee, shownOf, Within};
 
 // What is printed stands first in `out`.

@@ -7,9 +7,9 @@ use Rattle.scan.specs.Text.{bytes}
 use Rattle.written.specs.declared.Tour.{Tour}
 use Rattle.written.specs.Limits.{Limits}
 use Rattle.written.specs.Printed.{decimal, line, refusedBy}
-use Rattle.running_report.specs.Pages.{Page, put, CanPut}
+use Rattle.pages.specs.Pages.{Page, put, CanPut}
 use Rattle.running_report.specs.Reporting.{answerIn, tourLines, foundLines, gaveUpLines}
-use Rattle.running_report.proofs.Pieces.{Left, begun, regroup}
+use Rattle.pages.proofs.Pieces.{Left, begun, regroup}
 
 module _ (p : Page) where
   pub refusal-left : (reason at n : ℕ) → n ≡ reason → CanPut (refusedBy reason at) p

@@ -1,45 +1,16 @@
--- A name byte by byte, and the terms of an answer one after another. Assumes nothing.
-use Prim.Native.Nat.{ℕ, zero, suc, _+_, _-_, _/_, _%_, _≤_, _<_}
-use mathlib.Core.Path.{_≡_, refl, ap, ap₂, _∙_}
+-- The terms of an answer, one after another. Assumes nothing.
+use Prim.Native.Nat.{ℕ, suc, _+_, _-_, _≤_, _<_}
+use mathlib.Core.Path.{_≡_, ap, ap₂, _∙_}
 use mathlib.Core.List.{List, [], _∷_, _++_}
 use native.Mathlib.Numerals.{add-one}
 use native.Mathlib.Omega.{arith}
 use lib.ListN.{length, getD, take, drop, length-take, drop-of-length-le}
 use lib.Seq.{drop-cons, getD-take}
-use borrow.Author.Tests.{eq-eqb, ne-eqb}
 use Rattle.words.specs.Words.{bitAt}
 use Rattle.written.specs.Lists.{listOf}
-use Rattle.written.specs.Printed.{nameOf, signed, spaced, answer}
+use Rattle.written.specs.Printed.{signed, spaced, answer}
 use Rattle.laws.proofs.Lists.{listFrom-length, getD-listOf}
 use Rattle.running_report.specs.Reporting.{answerIn}
-
--- ---- a name
-
-pub name-none : (k x : ℕ) → k ≤ 0 → nameOf k x ≡ []
-unfolding nameOf
-name-none zero x h = refl
-name-none (suc k) x h = absurd (omega arith)
-
-pub name-over : (k x : ℕ) → x ≡ 0 → nameOf k x ≡ []
-unfolding nameOf
-name-over zero x e = refl
-name-over (suc k) x e = rw (eq-eqb x 0 e)
-
-pub name-more : (k x : ℕ) → 0 < k → (x ≡ 0 → ⊥) → nameOf k x ≡ (x % 256 ∷ []) ++ nameOf (k - 1) (x / 256)
-unfolding nameOf
-name-more zero x h n = absurd (omega arith)
-name-more (suc k) x h n = let e : suc k - 1 ≡ k = omega arith in rw (e, ne-eqb x 0 n)
-
--- a term at 0, and any other
-pub signed-no : (v x : ℕ) → v ≡ 0 → signed v x ≡ (126 ∷ []) ++ nameOf 8 x
-unfolding signed
-signed-no v x e = rw (eq-eqb v 0 e)
-
-pub signed-yes : (v x : ℕ) → (v ≡ 0 → ⊥) → signed v x ≡ nameOf 8 x
-unfolding signed
-signed-yes v x n = rw (ne-eqb v 0 n)
-
--- ---- the terms
 
 -- those from t on, of n
 abbrev pub termsFrom : ℕ → List ℕ → List ℕ → ℕ → List ℕ

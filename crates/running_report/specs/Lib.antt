@@ -1,3 +1,2 @@
--- Bytes put into a lent buffer, and the lines of an answer by the tables that it leaves.
-pub mod Pages
+-- The lines of an answer by the tables that it leaves.
 pub mod Reporting

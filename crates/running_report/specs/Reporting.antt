@@ -1,6 +1,6 @@
 -- The lines of an answer, by the names and the value words that stand in the tables. Assumes nothing.
 use Prim.Native.Nat.{ℕ, _≤_}
-use mathlib.Core.List.{List, [], _∷_, _++_}
+use mathlib.Core.List.{List, _++_}
 use lib.ListN.{length, take}
 use Rattle.words.specs.Words.{bitAt, trues}
 use Rattle.scan.specs.Text.{bytes}
@@ -11,11 +11,7 @@ use Rattle.written.specs.Lists.{listOf}
 use Rattle.written.specs.Limits.{Limits}
 use Rattle.written.specs.Reasons.{fault}
 use Rattle.written.specs.Printed.{decimal, line, answer, refusal}
-use Rattle.running_report.specs.Pages.{Page, CanPut}
-
--- a key, a value and byte 10
-abbrev pub keyed : List ℕ → List ℕ → List ℕ
-keyed key value = key ++ value ++ 10 ∷ []
+use Rattle.pages.specs.Pages.{Page, CanPut}
 
 -- the answer of the first n terms
 unfoldable pub answerIn : ℕ → List ℕ → List ℕ → List ℕ

@@ -18,7 +18,7 @@ use Rattle.laws.proofs.Lists.{drop-take}
 use Rattle.laws.proofs.Tests.{not-both}
 use Rattle.running_sheet.specs.declared.Verdict.the-variants.{Taken, Faulty}
 use Rattle.running_sheet.specs.Lines.{range, lineOf}
-use Rattle.running_sheet.proofs.Digits.{some-digits, few-digits}
+use Rattle.digits.proofs.Digits.{some-digits, few-digits}
 
 -- the line ends where its byte 10 is
 pub ends-at : (rest : List ℕ) → restAt rest 0 ≡ lineLength rest

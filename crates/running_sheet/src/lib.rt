@@ -1,9 +1,8 @@
 // The order sheet: four lines of a key and a number, judged from the top.
 ghost use mathlib.Core.Path.{_≡_};
-ghost use mathlib.Core.Bool.{true};
 ghost use lib.ListN.{length, take};
-ghost use Rattle.written.specs.Lists.{all, same};
-ghost use Rattle.written.specs.Sheet.{isDigit, isNumber, valueOfDigits, sheetOf};
+ghost use Rattle.written.specs.Lists.{same};
+ghost use Rattle.written.specs.Sheet.{sheetOf};
 ghost use Rattle.running_sheet.specs.Lines.{range, lineOf, refusedAt};
 use written::Fault;
 use written::Order;
@@ -40,57 +39,6 @@ fn begins(rest: &[u8], key: &[u8]) -> bool
     true
 }
 
-fn is_digit(b: u8) -> bool
-    ensures { λ r. ⌜ r ≡ isDigit b ⌝ }
-{
-    48 <= b && b <= 57
-}
-
-// Every byte is a digit.
-fn all_digits(digits: &[u8]) -> bool
-    ensures { λ r. ⌜ r ≡ all isDigit (now (digits .entry)) ⌝ }
-{
-    let mut i: usize = 0;
-    while i < digits.len() {
-        if !is_digit(digits[i]) {
-            return false;
-        }
-        i += 1;
-    }
-    true
-}
-
-// A number has 1 to 10 digits, no leading 0 except 0 itself.
-fn is_number(digits: &[u8]) -> bool
-    ensures { λ r. ⌜ r ≡ isNumber (now (digits .entry)) ⌝ }
-{
-    let n = digits.len();
-    if n == 0 {
-        return false;
-    }
-    if 10 < n {
-        return false;
-    }
-    if !all_digits(digits) {
-        return false;
-    }
-    n == 1 || digits[0] != 48
-}
-
-// Ten digits can exceed 32 bits, and not 64.
-fn value(digits: &[u8]) -> u64
-    requires { ⌜ isNumber (now digits) ≡ true ⌝ }
-    ensures { λ r. ⌜ r ≡ valueOfDigits (now (digits .entry)) ⌝ }
-{
-    let mut n: u64 = 0;
-    let mut i: usize = 0;
-    while i < digits.len() {
-        n = 10 * n + (digits[i] - 48) as u64;
-        i += 1;
-    }
-    n
-}
-
 // The first line of the rest: its form, then its range.
 fn line(rest: &[u8], key: &[u8], least: u32, most: u32) -> Verdict
     ensures { λ r. ⌜ r ≡ lineOf (now (key .entry)) (range least most) (now (rest .entry)) ⌝ }
@@ -106,10 +54,10 @@ fn line(rest: &[u8], key: &[u8], least: u32, most: u32) -> Verdict
     if end < from {
         return Verdict::Faulty(Reason::SheetForm);
     }
-    if !is_number(&rest[from..end]) {
+    if !digits::is_number(&rest[from..end]) {
         return Verdict::Faulty(Reason::SheetForm);
     }
-    let n = value(&rest[from..end]);
+    let n = digits::value(&rest[from..end]);
     if n < (least as u64) {
         return Verdict::Faulty(Reason::OutOfRange);
     }

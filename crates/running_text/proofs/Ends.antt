@@ -10,7 +10,7 @@ use Rattle.written.specs.Tables.{Tables, over}
 use Rattle.written.specs.Printed.{refusal}
 use Rattle.written.specs.Program.{Course, said, reportSize, tablesAfter, ran}
 use Rattle.laws.proofs.Reports.{refusal-fits}
-use Rattle.running_report.specs.Pages.{page, put, CanPut}
+use Rattle.pages.specs.Pages.{page, put, CanPut}
 use Rattle.running_text.specs.Running.{ended, CanRun}
 
 -- bytes put first into a buffer

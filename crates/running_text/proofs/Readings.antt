@@ -32,7 +32,7 @@ use Rattle.laws.proofs.Stands.{stands-allowed}
 use Rattle.laws.proofs.Valids.{end-valid}
 use Rattle.laws.proofs.ReadCalls.{reading-accepted, reading-refused}
 use Rattle.laws.specs.ReadCalls.{LeftAlone, Emptied}
-use Rattle.running_report.specs.Pages.{page, put, CanPut}
+use Rattle.pages.specs.Pages.{page, put, CanPut}
 use Rattle.running_text.specs.Running.{ended, CanRead, CanWalk}
 use Rattle.running_text.proofs.Ends.{ended-by, refusal-room}
 

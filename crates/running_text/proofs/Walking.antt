@@ -20,7 +20,7 @@ use Rattle.laws.proofs.Valids.{end-valid}
 use Rattle.laws.proofs.Sheets.{ranged}
 use Rattle.laws.proofs.Reports.{walked-length}
 use Rattle.walking.specs.Made.{walkMade}
-use Rattle.running_report.specs.Pages.{page, put, CanPut}
+use Rattle.pages.specs.Pages.{page, put, CanPut}
 use Rattle.running_report.specs.Reporting.{reportIn, namesIn, CanReport}
 use Rattle.running_text.specs.Running.{ended, CanWalk}
 use Rattle.running_report.proofs.Reported.{reported, report-named}

@@ -9,6 +9,7 @@ use Rattle.agreeing.proofs.agrees as agrees
 use Rattle.reading.proofs.read as read
 use Rattle.flipping_lists.proofs.apply as apply
 use Rattle.walking_call.proofs.walk as walk
+use Rattle.digits.proofs.is_number as is-number
 use Rattle.running_sheet.proofs.sheet as sheet
 use Rattle.running_input.proofs.set_out as set-out
 use Rattle.running.proofs.run_sheet as run-sheet
@@ -34,6 +35,9 @@ apply-settled M 𝓤 H A mem run κs a g = record { asks-nothing = refl; one-out
 
 pub walk-settled : Public walk.ended (λ M. walk.clauses)
 walk-settled M 𝓤 H A mem run κs a g = record { asks-nothing = refl; one-outcome = λ x y. both 𝓤 (λ p q. let e = meet p q in same (the-answer e) (ap (λ l. (tt, (tt, five (l .tables) tt))) e)) }
+
+pub is-number-settled : Public is-number.ended (λ M. is-number.clauses)
+is-number-settled M 𝓤 H A mem run κs a g = record { asks-nothing = refl; one-outcome = λ x y. both 𝓤 (λ p q. same (meet p q) refl) }
 
 pub sheet-settled : Public sheet.ended (λ M. sheet.clauses)
 sheet-settled M 𝓤 H A mem run κs a g = record { asks-nothing = refl; one-outcome = λ x y. both 𝓤 (λ p q. same (meet p q) refl) }

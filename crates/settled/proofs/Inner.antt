@@ -8,7 +8,7 @@ use Rattle.machine.specs.Moving.{Moving}
 use Rattle.reading_lines.specs.Drafting.{Desk}
 use Rattle.reading_end.specs.Clearing.{Others}
 use Rattle.reading_end.specs.Finishing.{Finished}
-use Rattle.running_report.specs.Pages.{Page}
+use Rattle.pages.specs.Pages.{Page}
 use Rattle.written.specs.Program.{Ran}
 use Rattle.settled.specs.Outcomes.{Public, Inner}
 use Rattle.settled.proofs.Facts.{meet, same, both, all-three, ten, five}
@@ -37,6 +37,13 @@ use Rattle.reading_end.proofs.verdict as verdict
 use Rattle.reading_end.proofs.clear_draft as clear-draft
 use Rattle.reading_end.proofs.clear_others as clear-others
 use Rattle.reading_end.proofs.finish as finish
+use Rattle.pages.proofs.put_byte as put-byte
+use Rattle.pages.proofs.put_all as put-all
+use Rattle.pages.proofs.put_number as put-number
+use Rattle.pages.proofs.put_name as put-name
+use Rattle.pages.proofs.put_term as put-term
+use Rattle.pages.proofs.put_line as put-line
+use Rattle.digits.proofs.value as value
 use Rattle.running_report.proofs.refusal as refusal
 use Rattle.running_report.proofs.report as report
 use Rattle.running_text.proofs.read_on as read-on
@@ -124,6 +131,27 @@ finish-settled M 𝓤 H A mem run κs a g =
           same (ap (λ (w : Finished). w .counts) e)
           (ap (λ (w : Finished). (tt, (tt, (tt, (w .clauses .literals, (w .clauses .occurrenceStarts, (w .clauses .occurrences, counted (w .moved)))))))) e));
     }
+
+pub put-byte-settled : Inner put-byte.ended (λ M. put-byte.clauses)
+put-byte-settled M 𝓤 H A mem run κs a g = record { one-outcome = λ x y. all-three 𝓤 (λ r p q. let e = meet p q in same (ap (λ s. s .at) e) (ap (λ (s : Page). (s .buffer, (tt, (tt, tt)))) e)) }
+
+pub put-all-settled : Inner put-all.ended (λ M. put-all.clauses)
+put-all-settled M 𝓤 H A mem run κs a g = record { one-outcome = λ x y. all-three 𝓤 (λ r p q. let e = meet p q in same (ap (λ s. s .at) e) (ap (λ (s : Page). (s .buffer, (tt, (tt, tt)))) e)) }
+
+pub put-number-settled : Inner put-number.ended (λ M. put-number.clauses)
+put-number-settled M 𝓤 H A mem run κs a g = record { one-outcome = λ x y. all-three 𝓤 (λ r p q. let e = meet p q in same (ap (λ s. s .at) e) (ap (λ (s : Page). (s .buffer, (tt, (tt, tt)))) e)) }
+
+pub put-name-settled : Inner put-name.ended (λ M. put-name.clauses)
+put-name-settled M 𝓤 H A mem run κs a g = record { one-outcome = λ x y. all-three 𝓤 (λ r p q. let e = meet p q in same (ap (λ s. s .at) e) (ap (λ (s : Page). (s .buffer, (tt, (tt, tt)))) e)) }
+
+pub put-term-settled : Inner put-term.ended (λ M. put-term.clauses)
+put-term-settled M 𝓤 H A mem run κs a g = record { one-outcome = λ x y. all-three 𝓤 (λ r p q. let e = meet p q in same (ap (λ s. s .at) e) (ap (λ (s : Page). (s .buffer, (tt, (tt, (tt, tt))))) e)) }
+
+pub put-line-settled : Inner put-line.ended (λ M. put-line.clauses)
+put-line-settled M 𝓤 H A mem run κs a g = record { one-outcome = λ x y. all-three 𝓤 (λ r p q. let e = meet p q in same (ap (λ s. s .at) e) (ap (λ (s : Page). (s .buffer, (tt, (tt, (tt, tt))))) e)) }
+
+pub value-settled : Inner value.ended (λ M. value.clauses)
+value-settled M 𝓤 H A mem run κs a g = record { one-outcome = λ x y. all-three 𝓤 (λ r p q. same (meet p q) refl) }
 
 pub refusal-settled : Inner refusal.ended (λ M. refusal.clauses)
 refusal-settled M 𝓤 H A mem run κs a g = record { one-outcome = λ x y. all-three 𝓤 (λ r p q. let e = meet p q in same (ap (λ s. s .at) e) (ap (λ (s : Page). (s .buffer, (tt, tt))) e)) }

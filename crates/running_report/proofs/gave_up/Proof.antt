@@ -1,6 +1,6 @@
 -- `running_report::gave_up` meets its contract: it is put together from its calls. Assumes nothing.
 use borrow.Author.Needs.{needs}
-use Rattle.running_report.proofs.Pieces.{first-fits, onward, ended}
+use Rattle.pages.proofs.Pieces.{first-fits, onward, ended}
 use Rattle.running_report.proofs.Lines.{gave-up-left}
 use Rattle.running_report.proofs.gave_up.Statement.{statement}
 use Rattle.running_report.proofs.gave_up.Tie as tie

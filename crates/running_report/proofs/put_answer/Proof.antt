@@ -4,8 +4,8 @@ use mathlib.Core.List.{_∷_, []}
 use Prim.Native.Nat.{_-_}
 use lib.ListN.{length}
 use borrow.Author.Needs.{needs}
-use Rattle.running_report.specs.Pages.{page, put}
-use Rattle.running_report.proofs.Pieces.{Left, begun, first-fits, onward, split, over, ended}
+use Rattle.pages.specs.Pages.{page, put}
+use Rattle.pages.proofs.Pieces.{Left, begun, first-fits, onward, split, over, ended}
 use Rattle.running_report.proofs.Named.{termsFrom, terms-over, terms-more, answer-none, answer-more}
 use Rattle.running_report.proofs.put_answer.Statement.{statement}
 use Rattle.running_report.proofs.put_answer.Tie as tie

@@ -1,7 +1,7 @@
 -- `running_report::put_tour` meets its contract: it is put together from its calls. Assumes nothing.
 use mathlib.Core.List.{_∷_, []}
 use borrow.Author.Needs.{needs}
-use Rattle.running_report.proofs.Pieces.{begun, first-fits, onward, ended}
+use Rattle.pages.proofs.Pieces.{begun, first-fits, onward, ended}
 use Rattle.running_report.proofs.put_tour.Statement.{statement}
 use Rattle.running_report.proofs.put_tour.Tie as tie
 

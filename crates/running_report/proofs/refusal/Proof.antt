@@ -1,7 +1,7 @@
 -- `running_report::refusal` meets its contract: it is put together from its calls. Assumes nothing.
 use mathlib.Core.Path.{refl}
 use borrow.Author.Needs.{needs}
-use Rattle.running_report.proofs.Pieces.{first-fits, onward, ended}
+use Rattle.pages.proofs.Pieces.{first-fits, onward, ended}
 use Rattle.running_report.proofs.Lines.{refusal-left}
 use Rattle.running_report.proofs.refusal.Statement.{statement}
 use Rattle.running_report.proofs.refusal.Tie as tie

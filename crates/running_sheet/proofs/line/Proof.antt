@@ -12,8 +12,8 @@ use Rattle.running_sheet.proofs.line.Reads as reads
 use Rattle.running_sheet.proofs.line.Lts as lts
 use Rattle.scan.proofs.line_end.Reads as line-end-reads
 use Rattle.running_sheet.proofs.begins.Reads as begins-reads
-use Rattle.running_sheet.proofs.is_number.Reads as is-number-reads
-use Rattle.running_sheet.proofs.value.Reads as value-reads
+use Rattle.digits.proofs.is_number.Reads as is-number-reads
+use Rattle.digits.proofs.value.Reads as value-reads
 
 returns : tie.Need-returns
 returns c = line-open _ _ _ (c .before .line-end .ensures) _ (c .if1 .taken)

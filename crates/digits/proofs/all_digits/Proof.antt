@@ -1,11 +1,11 @@
--- `running_sheet::all_digits` meets its contract: every byte before i is a digit. Assumes nothing.
+-- `digits::all_digits` meets its contract: every byte before i is a digit. Assumes nothing.
 use Prim.Native.Nat.{_-_}
 use lib.ListN.{length}
 use borrow.Author.Needs.{needs}
 use Rattle.written.specs.Sheet.{isDigit}
 use Rattle.laws.proofs.Tests.{said-no, said-yes, Tested, none-tested, one-tested, one-fails, all-tested}
-use Rattle.running_sheet.proofs.all_digits.Statement.{statement}
-use Rattle.running_sheet.proofs.all_digits.Tie as tie
+use Rattle.digits.proofs.all_digits.Statement.{statement}
+use Rattle.digits.proofs.all_digits.Tie as tie
 
 abbrev Inv-loop : tie.InvT-loop
 Inv-loop digits i₀ i = Tested isDigit digits i

@@ -6,7 +6,7 @@ use native.Mathlib.Numerals.{add-one}
 use native.Mathlib.Omega.{arith}
 use lib.ListN.{length, take, drop, set, length-append, length-drop, take-append-drop}
 use lib.Seq.{length-take-le, append-snoc, set-split, take-at, drop-append-add, drop-drop}
-use Rattle.running_report.specs.Pages.{Page, page, put, CanPut}
+use Rattle.pages.specs.Pages.{Page, page, put, CanPut}
 
 -- two pages with the same place and the same bytes
 same-page : {m n : ℕ} {xs ys : List ℕ} → m ≡ n → xs ≡ ys → page m xs ≡ page n ys

@@ -1,11 +1,11 @@
--- `running_sheet::value` meets its contract: each digit is counted after those before it. Assumes nothing.
+-- `digits::value` meets its contract: each digit is counted after those before it. Assumes nothing.
 use Prim.Native.Nat.{_-_}
 use lib.ListN.{length}
 use native.Mathlib.Omega.{arith}
 use borrow.Author.Needs.{needs}
-use Rattle.running_sheet.proofs.Digits.{Counted, none-counted, digit-low, counted-fits, one-counted, all-counted}
-use Rattle.running_sheet.proofs.value.Statement.{statement}
-use Rattle.running_sheet.proofs.value.Tie as tie
+use Rattle.digits.proofs.Digits.{Counted, none-counted, digit-low, counted-fits, one-counted, all-counted}
+use Rattle.digits.proofs.value.Statement.{statement}
+use Rattle.digits.proofs.value.Tie as tie
 
 abbrev Inv-loop : tie.InvT-loop
 Inv-loop digits n₀ i₀ n i = Counted digits i n

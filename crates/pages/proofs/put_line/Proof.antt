@@ -1,9 +1,9 @@
--- `running_report::put_line` meets its contract: it is put together from its calls. Assumes nothing.
+-- `pages::put_line` meets its contract: it is put together from its calls. Assumes nothing.
 use mathlib.Core.List.{_∷_, []}
 use borrow.Author.Needs.{needs}
-use Rattle.running_report.proofs.Pieces.{begun, first-fits, onward, ended}
-use Rattle.running_report.proofs.put_line.Statement.{statement}
-use Rattle.running_report.proofs.put_line.Tie as tie
+use Rattle.pages.proofs.Pieces.{begun, first-fits, onward, ended}
+use Rattle.pages.proofs.put_line.Statement.{statement}
+use Rattle.pages.proofs.put_line.Tie as tie
 
 put-all-requires : tie.Need-put-all-requires
 put-all-requires c κs = first-fits (begun _ (_ ∷ _ ∷ []) _ (c .before .before .before .pre))

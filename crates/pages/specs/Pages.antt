@@ -1,6 +1,6 @@
 -- A lent buffer that is written from its front. Assumes nothing.
 use Prim.Native.Nat.{ℕ, _+_, _≤_}
-use mathlib.Core.List.{List, _++_}
+use mathlib.Core.List.{List, [], _∷_, _++_}
 use lib.ListN.{length, take, drop}
 
 -- the buffer, and the place where the next byte goes
@@ -18,3 +18,7 @@ put bs p = page (p .at + length bs) (take (p .at) (p .buffer) ++ bs ++ drop (p .
 -- they fit
 pub record CanPut (bs : List ℕ) (p : Page) : Type 0 where
   pub room : p .at + length bs ≤ length (p .buffer)
+
+-- a key, a value and byte 10
+abbrev pub keyed : List ℕ → List ℕ → List ℕ
+keyed key value = key ++ value ++ 10 ∷ []

@@ -1,4 +1,4 @@
--- `running_report::put_number` meets its contract: the digits of the tenth, then the last; the measure is the number. Assumes nothing.
+-- `pages::put_number` meets its contract: the digits of the tenth, then the last; the measure is the number. Assumes nothing.
 use Prim.Native.Nat.{ℕ, _<_}
 use mathlib.Core.List.{_∷_, []}
 use native.Mathlib.Omega.{arith}
@@ -6,14 +6,14 @@ use borrow.Author.Needs.{needs}
 use borrow.Fn.Kinds.{In}
 use borrow.Fn.PlainCycle.{Measures, is, falls, and}
 use Rattle.laws.proofs.Decimals.{decimal-one, decimal-more}
-use Rattle.running_report.proofs.Putting.{fits-first}
-use Rattle.running_report.proofs.Pieces.{begun, first-fits, onward, ended}
-use Rattle.running_report.proofs.put_number.Reads as put-number
-use Rattle.running_report.proofs.put_number.Kinds as put-number-kinds
-use Rattle.running_report.proofs.+put_number.Lts-put_number as put-number-lts
-use Rattle.running_report.proofs.put_byte.Reads as put-byte-reads
-use Rattle.running_report.proofs.+put_number.{statement}
-use Rattle.running_report.proofs.+put_number.Tie.{close}
+use Rattle.pages.proofs.Putting.{fits-first}
+use Rattle.pages.proofs.Pieces.{begun, first-fits, onward, ended}
+use Rattle.pages.proofs.put_number.Reads as put-number
+use Rattle.pages.proofs.put_number.Kinds as put-number-kinds
+use Rattle.pages.proofs.+put_number.Lts-put_number as put-number-lts
+use Rattle.pages.proofs.put_byte.Reads as put-byte-reads
+use Rattle.pages.proofs.+put_number.{statement}
+use Rattle.pages.proofs.+put_number.Tie.{close}
 
 abbrev μ-put-number : Measures 1 put-number-kinds.ps ℕ
 μ-put-number κs a = a .1 .1 .0

@@ -1,14 +1,14 @@
--- `running_report::put_name` meets its contract: the bytes that are left make the name. Assumes nothing.
+-- `pages::put_name` meets its contract: the bytes that are left make the name. Assumes nothing.
 use mathlib.Core.Path.{_≡_, refl, _∙_}
 use mathlib.Core.List.{_∷_, []}
 use lib.ListN.{length}
 use borrow.Author.Needs.{needs}
 use Rattle.written.specs.Printed.{nameOf}
-use Rattle.running_report.specs.Pages.{page, put}
-use Rattle.running_report.proofs.Pieces.{Left, begun, first-fits, onward, split, over}
-use Rattle.running_report.proofs.Named.{name-none, name-over, name-more}
-use Rattle.running_report.proofs.put_name.Statement.{statement}
-use Rattle.running_report.proofs.put_name.Tie as tie
+use Rattle.pages.specs.Pages.{page, put}
+use Rattle.pages.proofs.Pieces.{Left, begun, first-fits, onward, split, over}
+use Rattle.pages.proofs.Spelt.{name-none, name-over, name-more}
+use Rattle.pages.proofs.put_name.Statement.{statement}
+use Rattle.pages.proofs.put_name.Tie as tie
 
 abbrev Inv-loop : tie.InvT-loop
 Inv-loop out₀ at name rest₀ next₀ left₀ out rest next left = Left (nameOf left rest ∷ []) (put (nameOf 8 name) (page at out₀)) (page next out) × (length out ≡ length out₀)

@@ -1,10 +1,10 @@
--- `running_report::put_term` meets its contract: with the sign or without it. Assumes nothing.
+-- `pages::put_term` meets its contract: with the sign or without it. Assumes nothing.
 use mathlib.Core.List.{[]}
 use borrow.Author.Needs.{needs}
-use Rattle.running_report.proofs.Pieces.{begun, first-fits, onward, split, ended}
-use Rattle.running_report.proofs.Named.{signed-no, signed-yes}
-use Rattle.running_report.proofs.put_term.Statement.{statement}
-use Rattle.running_report.proofs.put_term.Tie as tie
+use Rattle.pages.proofs.Pieces.{begun, first-fits, onward, split, ended}
+use Rattle.pages.proofs.Spelt.{signed-no, signed-yes}
+use Rattle.pages.proofs.put_term.Statement.{statement}
+use Rattle.pages.proofs.put_term.Tie as tie
 
 pub put-term-spec : {M : Type 1} → statement M
 put-term-spec =

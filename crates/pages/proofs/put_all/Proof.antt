@@ -1,13 +1,13 @@
--- `running_report::put_all` meets its contract: the bytes that are left make the whole. Assumes nothing.
+-- `pages::put_all` meets its contract: the bytes that are left make the whole. Assumes nothing.
 use mathlib.Core.Path.{_≡_, refl, _∙_}
 use mathlib.Core.List.{_∷_, []}
 use Prim.Native.Nat.{_-_}
 use lib.ListN.{length, drop, drop-of-length-le}
 use borrow.Author.Needs.{needs}
-use Rattle.running_report.specs.Pages.{page, put}
-use Rattle.running_report.proofs.Pieces.{Left, begun, first-fits, onward, split, next-byte, over}
-use Rattle.running_report.proofs.put_all.Statement.{statement}
-use Rattle.running_report.proofs.put_all.Tie as tie
+use Rattle.pages.specs.Pages.{page, put}
+use Rattle.pages.proofs.Pieces.{Left, begun, first-fits, onward, split, next-byte, over}
+use Rattle.pages.proofs.put_all.Statement.{statement}
+use Rattle.pages.proofs.put_all.Tie as tie
 
 abbrev Inv-loop : tie.InvT-loop
 Inv-loop out₀ at bytes next₀ i₀ out next i = Left (drop i bytes ∷ []) (put bytes (page at out₀)) (page next out) × (length out ≡ length out₀)

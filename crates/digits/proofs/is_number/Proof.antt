@@ -1,4 +1,4 @@
--- `running_sheet::is_number` meets its contract: each way out by the tests that lead there. Assumes nothing.
+-- `digits::is_number` meets its contract: each way out by the tests that lead there. Assumes nothing.
 use Prim.Native.Nat.{ℕ}
 use mathlib.Core.Path.{_≡_}
 use mathlib.Core.Bool.{true, false}
@@ -8,8 +8,8 @@ use lib.Dec.{ltb}
 use borrow.Author.Tests.{lt-ltb, le-ltb, le-leb, lt-leb, eq-eqb, ne-eqb}
 use Rattle.written.specs.Sheet.{isNumber}
 use Rattle.laws.proofs.Tests.{said-no, said-yes}
-use Rattle.running_sheet.proofs.is_number.Statement.{statement}
-use Rattle.running_sheet.proofs.is_number.Tie as tie
+use Rattle.digits.proofs.is_number.Statement.{statement}
+use Rattle.digits.proofs.is_number.Tie as tie
 
 zero : (n : ℕ) → n ≡ 0 → ltb 0 n ≡ false
 zero n h = le-ltb 0 n (omega arith)

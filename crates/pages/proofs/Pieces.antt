@@ -5,8 +5,8 @@ use mathlib.Core.List.{List, [], _∷_, _++_, flatten, foldl, append-assoc, appe
 use native.Mathlib.Numerals.{add-one}
 use lib.ListN.{length, getD, drop}
 use lib.Seq.{drop-cons}
-use Rattle.running_report.specs.Pages.{Page, put, CanPut}
-use Rattle.running_report.proofs.Putting.{put-none, fits-first, fits-next, put-both}
+use Rattle.pages.specs.Pages.{Page, put, CanPut}
+use Rattle.pages.proofs.Putting.{put-none, fits-first, fits-next, put-both}
 
 -- the pieces are left to put into the page q, and it is then the page that is asked for
 pub record Left (pieces : List (List ℕ)) (asked q : Page) : Type 0 where

@@ -1,0 +1,4 @@
+-- What the proofs of these functions cite, and of those above them; these stand beside the functions' names.
+pub mod Putting
+pub mod Pieces
+pub mod Spelt

@@ -1,0 +1,2 @@
+-- Bytes put into a lent buffer.
+pub mod Pages

@@ -1,8 +1,0 @@
--- `running_report::put_byte` meets its contract: one byte stored is one byte put. Assumes nothing.
-use borrow.Author.Needs.{needs}
-use Rattle.running_report.proofs.Putting.{put-byte}
-use Rattle.running_report.proofs.put_byte.Statement.{statement}
-use Rattle.running_report.proofs.put_byte.Tie as tie
-
-pub put-byte-spec : {M : Type 1} → statement M
-put-byte-spec = tie.close (tie.spec (λ c. search needs) (λ c. search needs) (λ c. search needs) (λ c. search put-byte))
