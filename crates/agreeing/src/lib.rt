@@ -45,7 +45,8 @@ fn points_agree(
     uncovered: &[u16],
     places: &[u16],
 ) -> bool
-    requires { ⌜ (areFull narrow (lentAt names values starts literals «occurrence_starts» occurrences trues breaks uncovered places) ≡ true) × (countsFit narrow n ≡ true) ⌝ }
+    requires { ⌜ (areFull narrow (lentAt names values starts literals «occurrence_starts» occurrences trues breaks uncovered places) ≡ true)
+        × (countsFit narrow n ≡ true) ⌝ }
     ensures { λ r. ⌜ r ≡ agree narrow n (lentBefore names values starts literals «occurrence_starts» occurrences trues breaks uncovered places) ⌝ }
 {
     if agreeing_file::clauses_hold(n, names, starts, literals, occurrence_starts, occurrences) {

@@ -12,7 +12,8 @@ ghost use Rattle.written.specs.Agreement.{partOf, isName, countsFit};
 ghost use Rattle.machine.specs.Moving.{CanPart};
 ghost use Rattle.machine.specs.Judging.{clausesIn, startsRight, literalsRight, turnedRight, fileRight, passes};
 ghost use Rattle.machine.specs.Marks.{isFresh, markTerm, CanMark};
-ghost use Rattle.machine.specs.Matching.{cutsRight, standsAt, isNext, passOne, clauseNext, passClause, clausesNext, passClauses, runsPassed, CanPass, CanPassAll, CanMatch};
+ghost use Rattle.machine.specs.Matching.{cutsRight, standsAt, isNext, passOne, clauseNext, passClause};
+ghost use Rattle.machine.specs.Matching.{clausesNext, passClauses, runsPassed, CanPass, CanPassAll, CanMatch};
 ghost use Rattle.machine.specs.Slots.{Indexed};
 ghost use Rattle.names.specs.Finding.{homes};
 use written::Counts;
@@ -279,7 +280,8 @@ fn clauses_next(
     passed: &mut [u16],
 ) -> bool
     requires { ⌜ CanPassAll 65536 (n .clauses) (now starts) (now literals) (now «occurrence_starts») (now occurrences) (now passed) ⌝ }
-    ensures { λ r. ⌜ (r ≡ clausesNext (partOf (now («occurrence_starts» .entry)) (now (occurrences .entry))) (partOf (now (starts .entry)) (now (literals .entry))) (n .clauses) (now (passed .entry)))
+    ensures { λ r. ⌜ (r ≡ clausesNext (partOf (now («occurrence_starts» .entry)) (now (occurrences .entry)))
+        (partOf (now (starts .entry)) (now (literals .entry))) (n .clauses) (now (passed .entry)))
         × (r ≡ true → now (passed .exit) ≡ passClauses (partOf (now (starts .entry)) (now (literals .entry))) (n .clauses) (now (passed .entry))) ⌝ }
 {
     let clauses = n.clauses as usize;
@@ -327,7 +329,8 @@ fn occurrences_agree(
     occurrences: &[u16],
 ) -> bool
     requires { ⌜ CanMatch 65536 4096 (n .terms) (n .clauses) (n .literals) (now starts) (now literals) (now «occurrence_starts») (now occurrences) ⌝ }
-    ensures { λ r. ⌜ r ≡ turnedRight (n .terms) (n .literals) (clausesIn (n .clauses) (now (starts .entry)) (now (literals .entry))) (now («occurrence_starts» .entry)) (now (occurrences .entry)) ⌝ }
+    ensures { λ r. ⌜ r ≡ turnedRight (n .terms) (n .literals) (clausesIn (n .clauses) (now (starts .entry)) (now (literals .entry)))
+        (now («occurrence_starts» .entry)) (now (occurrences .entry)) ⌝ }
 {
     if starts_cut(
         occurrence_starts,

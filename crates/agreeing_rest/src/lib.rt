@@ -159,7 +159,8 @@ pub fn rests_agree(
     uncovered: &[u16],
     places: &[u16],
 ) -> bool
-    requires { ⌜ (areFull narrow (lentAt names values starts literals «occurrence_starts» occurrences trues breaks uncovered places) ≡ true) × (countsFit narrow n ≡ true) ⌝ }
+    requires { ⌜ (areFull narrow (lentAt names values starts literals «occurrence_starts» occurrences trues breaks uncovered places) ≡ true)
+        × (countsFit narrow n ≡ true) ⌝ }
     ensures { λ r. ⌜ r ≡ (clauseRests narrow n (now (names .entry)) (now (values .entry)) (now (starts .entry)) (now (literals .entry))
         (now («occurrence_starts» .entry)) (now (occurrences .entry))
         && countRests narrow n (now (trues .entry)) (now (breaks .entry)) (now (uncovered .entry)) (now (places .entry))

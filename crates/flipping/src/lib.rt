@@ -5,7 +5,8 @@ ghost use Prim.Native.Nat.{_+_, _-_, _≤_, _<_};
 ghost use lib.ListN.{length, getD, set};
 ghost use Rattle.written.specs.Lists.{steps};
 ghost use Rattle.machine.specs.Uncovered.{uncovered, leaves, CanLeave};
-ghost use Rattle.machine.specs.Tallies.{talliesAt, talliesBefore, talliesAfter, lowered, CanLower, pickOf, belowOf, gainOne, loseOne, CanGain, CanLose, CanSteps};
+ghost use Rattle.machine.specs.Tallies.{talliesAt, talliesBefore, talliesAfter, lowered, CanLower, pickOf};
+ghost use Rattle.machine.specs.Tallies.{belowOf, gainOne, loseOne, CanGain, CanLose, CanSteps};
 ghost use Rattle.machine.specs.Moving.{moving, occurring, upOf, flipTerm, CanFlip};
 
 // One less at k.

@@ -44,7 +44,8 @@ fn verdict(
     uncovered: &[u16],
     places: &[u16],
 ) -> Tested
-    ensures { λ r. ⌜ r ≡ testsOf narrow (now (list .entry)) n (lentBefore names values starts literals «occurrence_starts» occurrences trues breaks uncovered places) ⌝ }
+    ensures { λ r. ⌜ r ≡ testsOf narrow (now (list .entry)) n
+        (lentBefore names values starts literals «occurrence_starts» occurrences trues breaks uncovered places) ⌝ }
 {
     if !tables::are_full(
         names,

@@ -26,8 +26,10 @@ pub extern "C" fn ngi_flip(
     uncovered_list: &mut [u16],
     places: &mut [u16],
 ) -> FlipAnswer
-    ensures { λ r. ⌜ leaves r (lentAfter names values starts «literals_table» «occurrence_starts» occurrences «true_counts» «break_counts» «uncovered_list» places)
-        ≡ told flipAnswer (flipsOf narrow (now (list .entry)) (counts terms clauses literals uncovered) (lentBefore names values starts «literals_table» «occurrence_starts» occurrences «true_counts» «break_counts» «uncovered_list» places)) ⌝ }
+    ensures { λ r. ⌜ leaves r
+        (lentAfter names values starts «literals_table» «occurrence_starts» occurrences «true_counts» «break_counts» «uncovered_list» places)
+        ≡ told flipAnswer (flipsOf narrow (now (list .entry)) (counts terms clauses literals uncovered)
+        (lentBefore names values starts «literals_table» «occurrence_starts» occurrences «true_counts» «break_counts» «uncovered_list» places)) ⌝ }
 {
     let n = Counts {
         terms: terms,

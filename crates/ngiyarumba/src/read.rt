@@ -21,8 +21,10 @@ pub extern "C" fn ngi_read(
     uncovered_list: &mut [u16],
     places: &mut [u16],
 ) -> ReadAnswer
-    ensures { λ r. ⌜ leaves r (lentAfter names values starts «literals_table» «occurrence_starts» occurrences «true_counts» «break_counts» «uncovered_list» places)
-        ≡ told readAnswer (readingOf narrow (now (text .entry)) (lentBefore names values starts «literals_table» «occurrence_starts» occurrences «true_counts» «break_counts» «uncovered_list» places)) ⌝ }
+    ensures { λ r. ⌜ leaves r
+        (lentAfter names values starts «literals_table» «occurrence_starts» occurrences «true_counts» «break_counts» «uncovered_list» places)
+        ≡ told readAnswer (readingOf narrow (now (text .entry))
+        (lentBefore names values starts «literals_table» «occurrence_starts» occurrences «true_counts» «break_counts» «uncovered_list» places)) ⌝ }
 {
     let answer = reading::read(
         text,

@@ -22,8 +22,11 @@ pub extern "C" fn ngi_run(
     places: &mut [u16],
     out: &mut [u8],
 ) -> RunAnswer
-    ensures { λ r. ⌜ answered r (lentAfter names values starts «literals_table» «occurrence_starts» occurrences «true_counts» «break_counts» «uncovered_list» places) (now (out .exit))
-        ≡ runOf narrow (now (input .entry)) (lentBefore names values starts «literals_table» «occurrence_starts» occurrences «true_counts» «break_counts» «uncovered_list» places) (now (out .entry)) ⌝ }
+    ensures { λ r. ⌜ answered r
+        (lentAfter names values starts «literals_table» «occurrence_starts» occurrences «true_counts» «break_counts» «uncovered_list» places) (now (out .exit))
+        ≡ runOf narrow (now (input .entry))
+        (lentBefore names values starts «literals_table» «occurrence_starts» occurrences «true_counts» «break_counts» «uncovered_list» places)
+        (now (out .entry)) ⌝ }
 {
     running::run_sheet(
         input,

@@ -30,8 +30,10 @@ pub extern "C" fn ngi_walk(
     uncovered_list: &mut [u16],
     places: &mut [u16],
 ) -> WalkAnswer
-    ensures { λ r. ⌜ leaves r (lentAfter names values starts «literals_table» «occurrence_starts» occurrences «true_counts» «break_counts» «uncovered_list» places)
-        ≡ told walkAnswer (walkOf narrow (order seed flips walks bias) (counts terms clauses literals uncovered) (lentBefore names values starts «literals_table» «occurrence_starts» occurrences «true_counts» «break_counts» «uncovered_list» places)) ⌝ }
+    ensures { λ r. ⌜ leaves r
+        (lentAfter names values starts «literals_table» «occurrence_starts» occurrences «true_counts» «break_counts» «uncovered_list» places)
+        ≡ told walkAnswer (walkOf narrow (order seed flips walks bias) (counts terms clauses literals uncovered)
+        (lentBefore names values starts «literals_table» «occurrence_starts» occurrences «true_counts» «break_counts» «uncovered_list» places)) ⌝ }
 {
     let o = Order {
         seed: seed,

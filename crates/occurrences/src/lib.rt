@@ -85,7 +85,8 @@ fn put_clause(
     cursors: &mut [u16],
     c: u16,
 )
-    requires { ⌜ CanSteps (CanPut 65536 (now «occurrence_starts») c) (putOne (now «occurrence_starts») c) (now clause) (filling (now occurrences) (now cursors)) ⌝ }
+    requires { ⌜ CanSteps (CanPut 65536 (now «occurrence_starts») c) (putOne (now «occurrence_starts») c) (now clause)
+        (filling (now occurrences) (now cursors)) ⌝ }
     ensures { λ _. ⌜ filling (now (occurrences .exit)) (now (cursors .exit))
         ≡ steps (putOne (now («occurrence_starts» .entry)) c) (now (clause .entry)) (filling (now (occurrences .entry)) (now (cursors .entry))) ⌝ }
 {

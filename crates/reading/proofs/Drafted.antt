@@ -1,4 +1,4 @@
--- A draft of a text, made in tables that were cleared, is its file laid in them, to be finished; where the text is refused, what it used is still within the full sizes. Assumes nothing.
+-- A draft of a text in cleared tables is its file laid in them; where the text is refused, what it used is within the full sizes. Assumes nothing.
 use mathlib.Core.Path.{_≡_, ap, sym, _∙_, subst}
 use mathlib.Core.Bool.{true}
 use mathlib.Core.List.{List}

@@ -27,7 +27,8 @@ fn read_cleared(
 ) -> Read
     requires { ⌜ Bare narrow (lentAt names values starts literals «occurrence_starts» occurrences trues breaks uncovered places) ⌝ }
     ensures { λ r. ⌜ leaves r (lentAfter names values starts literals «occurrence_starts» occurrences trues breaks uncovered places)
-        ≡ readLeaves narrow (lentBefore names values starts literals «occurrence_starts» occurrences trues breaks uncovered places) (readText narrow (now (text .entry))) ⌝ }
+        ≡ readLeaves narrow (lentBefore names values starts literals «occurrence_starts» occurrences trues breaks uncovered places)
+        (readText narrow (now (text .entry))) ⌝ }
 {
     match reading_end::verdict(text) {
         Tested::Failed(reason) => {

@@ -1,4 +1,4 @@
--- A file laid in tables that were cleared: it can be finished, and then the tables are those written for it; and what a draft used is 0 again once it is wiped. Assumes nothing.
+-- A file laid in cleared tables: it can be finished, and the tables are then those written for it; wiped, they are 0 again. Assumes nothing.
 use mathlib.Core.Path.{_≡_, ap, sym, _∙_, subst, subst₂}
 use mathlib.Core.List.{List, _++_, flatten}
 use Prim.Native.Nat.{ℕ, _+_, _*_, _≤_, _<_}

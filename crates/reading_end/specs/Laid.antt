@@ -1,4 +1,4 @@
--- What a reading of any kind of text has left when its text is at its end: a file in names, starts and literals, and beside it what it used on its way. Assumes nothing.
+-- What a reading of any kind of text has left at its end: a file in names, starts and literals, and what it used on its way. Assumes nothing.
 use Prim.Native.Nat.{_+_, _≤_}
 use mathlib.Core.Path.{_≡_}
 use mathlib.Core.List.{flatten}

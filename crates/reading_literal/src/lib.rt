@@ -67,7 +67,8 @@ fn seen(
 // One literal more at the line's end, and its place as its term's stamp.
 fn mark(literals: &mut [u16], stamps: &mut [u16], held: usize, term: usize, negated: bool)
     requires { ⌜ (held < length (now literals)) × (term < length (now stamps)) × (held < 65536) × (term < 32768) ⌝ }
-    ensures { λ _. ⌜ (now (literals .exit) ≡ set (now (literals .entry)) held (literalOf term negated)) × (now (stamps .exit) ≡ set (now (stamps .entry)) term held) ⌝ }
+    ensures { λ _. ⌜ (now (literals .exit) ≡ set (now (literals .entry)) held (literalOf term negated))
+        × (now (stamps .exit) ≡ set (now (stamps .entry)) term held) ⌝ }
 {
     let l = literal(term, negated);
     literals[held] = l as u16;
@@ -87,7 +88,8 @@ pub fn take(
     negated: bool,
 ) -> Taken
     requires { ⌜ Open homes narrow (now names) terms (now literals) from held (now stamps) (now slots) ⌝ }
-    ensures { λ r. ⌜ Took homes narrow (now (names .entry)) terms (now (literals .entry)) from held (now (stamps .entry)) (now (slots .entry)) name negated (now (names .exit)) (now (literals .exit)) (now (stamps .exit)) (now (slots .exit)) r ⌝ }
+    ensures { λ r. ⌜ Took homes narrow (now (names .entry)) terms (now (literals .entry)) from held (now (stamps .entry))
+        (now (slots .entry)) name negated (now (names .exit)) (now (literals .exit)) (now (stamps .exit)) (now (slots .exit)) r ⌝ }
 {
     let found = names::find(names, slots, terms, name);
     match found {

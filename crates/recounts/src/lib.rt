@@ -18,7 +18,8 @@ fn open_one(
 )
     requires { ⌜ CanPart (now starts) (now literals) c × (c < length (now trues)) × (c < length (now places)) ⌝ }
     ensures { λ _. ⌜ now (places .exit)
-        ≡ set (now (places .entry)) c (walkPlace (view (now (values .entry)) (now (starts .entry)) (now (literals .entry))) (now (trues .entry)) c (getD (now (places .entry)) c 0)) ⌝ }
+        ≡ set (now (places .entry)) c (walkPlace (view (now (values .entry)) (now (starts .entry)) (now (literals .entry))) (now (trues .entry)) c
+        (getD (now (places .entry)) c 0)) ⌝ }
 {
     if trues[c] == 0 {
         return;
@@ -37,7 +38,8 @@ pub fn open_all(
 )
     requires { ⌜ CanOpen clauses (view (now values) (now starts) (now literals)) (now trues) (now places) ⌝ }
     ensures { λ _. ⌜ now (places .exit)
-        ≡ rewritten (walkPlace (view (now (values .entry)) (now (starts .entry)) (now (literals .entry))) (now (trues .entry))) clauses (now (places .entry)) ⌝ }
+        ≡ rewritten (walkPlace (view (now (values .entry)) (now (starts .entry)) (now (literals .entry))) (now (trues .entry))) clauses
+        (now (places .entry)) ⌝ }
 {
     let mut c = 0;
     while c < clauses {

@@ -26,7 +26,8 @@ fn begin(
 ) -> usize
     requires { ⌜ CanRun narrow (lentAt names values starts literals «occurrence_starts» occurrences trues breaks uncovered places) (now out) ⌝ }
     ensures { λ r. ⌜ ended r (lentAfter names values starts literals «occurrence_starts» occurrences trues breaks uncovered places) (now (out .exit))
-        ≡ ran narrow (lentBefore names values starts literals «occurrence_starts» occurrences trues breaks uncovered places) (now (out .entry)) (courseOf narrow (now (input .entry))) ⌝ }
+        ≡ ran narrow (lentBefore names values starts literals «occurrence_starts» occurrences trues breaks uncovered places) (now (out .entry))
+        (courseOf narrow (now (input .entry))) ⌝ }
 {
     match running_input::set_out(input) {
         Outset::Long(e) => {
@@ -84,7 +85,8 @@ pub fn run_sheet(
     out: &mut [u8],
 ) -> RunAnswer
     ensures { λ r. ⌜ answered r (lentAfter names values starts literals «occurrence_starts» occurrences trues breaks uncovered places) (now (out .exit))
-        ≡ runOf narrow (now (input .entry)) (lentBefore names values starts literals «occurrence_starts» occurrences trues breaks uncovered places) (now (out .entry)) ⌝ }
+        ≡ runOf narrow (now (input .entry)) (lentBefore names values starts literals «occurrence_starts» occurrences trues breaks uncovered places)
+        (now (out .entry)) ⌝ }
 {
     if !tables::are_full(
         names,

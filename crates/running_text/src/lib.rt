@@ -68,7 +68,8 @@ pub fn read_on(
 ) -> usize
     requires { ⌜ CanRead narrow order (lentAt names values starts literals «occurrence_starts» occurrences trues breaks uncovered places) (now out) ⌝ }
     ensures { λ r. ⌜ ended r (lentAfter names values starts literals «occurrence_starts» occurrences trues breaks uncovered places) (now (out .exit))
-        ≡ ran narrow (lentBefore names values starts literals «occurrence_starts» occurrences trues breaks uncovered places) (now (out .entry)) (afterReading order (readText narrow (now (text .entry)))) ⌝ }
+        ≡ ran narrow (lentBefore names values starts literals «occurrence_starts» occurrences trues breaks uncovered places) (now (out .entry))
+        (afterReading order (readText narrow (now (text .entry)))) ⌝ }
 {
     match reading::read(
         text,

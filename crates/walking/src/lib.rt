@@ -42,9 +42,11 @@ fn all_walks(
     ties: &mut [u16],
     from: At,
 ) -> Ended
-    requires { ⌜ CanWalks 65536 (length (now ties)) (2 ^ 32) (n .terms) (n .clauses) (order .walks) order (fixedAt starts literals «occurrence_starts» occurrences)
+    requires { ⌜ CanWalks 65536 (length (now ties)) (2 ^ 32) (n .terms) (n .clauses) (order .walks) order
+        (fixedAt starts literals «occurrence_starts» occurrences)
         (stand (now values) (talliesAt trues breaks list places (from .number)) (from .generator .state) (from .flips)) ⌝ }
-    ensures { λ r. ⌜ end (r .found) (r .walks) (stand (now (values .exit)) (talliesAfter trues breaks list places (r .at .number)) (r .at .generator .state) (r .at .flips))
+    ensures { λ r. ⌜ end (r .found) (r .walks) (stand (now (values .exit)) (talliesAfter trues breaks list places (r .at .number))
+        (r .at .generator .state) (r .at .flips))
         ≡ walksIn order (n .terms) (n .clauses) (fixedBefore starts literals «occurrence_starts» occurrences) (order .walks) 0
         (stand (now (values .entry)) (talliesBefore trues breaks list places (from .number)) (from .generator .state) (from .flips)) ⌝ }
 {
