@@ -25,7 +25,7 @@ use Rattle.written.specs.Flips.{flipped}
 use Rattle.written.specs.Tables.{Tables, each, sizes, areFull, inUse, tablesOf, placeIn, countsOf, holding}
 use Rattle.written.specs.Agreement.{stateIn, agree}
 use Rattle.written.specs.Outcomes.{Leaves, flipsRefused, flipsLeave, flipsOf, flipValues}
-use Rattle.laws.specs.Valid.{Bits, Valid}
+use Rattle.laws.specs.Valid.{Proper, Bits, Valid}
 use Rattle.laws.specs.Calls.{Stands, SameFile}
 use Rattle.laws.specs.FlipCalls.{Fails, reasonGiven, Given, Refused}
 use Rattle.laws.specs.FlipCalls.Fails.{short, long, disagree, unknown}
@@ -300,14 +300,20 @@ flips-accepted lim ts n m t e =
     let h = accepted-exactly lim ts n t .0 (m, e) in
     subst (λ (k : Counts). Accepted lim ts n k t) (ap countsIn (sym (applied lim ts n t h) ∙ e)) (acceptable-leaves lim ts n t h)
 
--- "Take one accepted clause file, any starting values and any list of up to 65,536 flips of known terms": such a call is accepted
-pub file-acceptable : (lim : Limits) (text : List ℕ) (f : File) (vs ts : List ℕ) (t : Tables) → readText lim text ≡ accepted f
+-- "Take one [..] clause file, any starting values and any list of up to 65,536 flips of known terms": such a call is accepted, whatever kind of text it was read from
+pub file-acceptable : (lim : Limits) (f : File) (vs ts : List ℕ) (t : Tables) → Proper lim f
     → length vs ≡ length (f .names) → Bits vs → length ts ≤ lim .list → all (λ v. ltb v (length (f .names))) ts ≡ true → areFull lim t ≡ true
     → Acceptable lim ts (countsOf (afresh f vs)) (holding lim (afresh f vs) t)
 unfolding countsOf afresh
-file-acceptable lim text f vs ts t e one-each bits few known full =
+file-acceptable lim f vs ts t proper one-each bits few known full =
     let s = afresh f vs in
     stands-acceptable lim s t (countsOf s) (holding lim s t) (stands-in lim s t valid full) ts few known
   where
     valid : Valid lim (afresh f vs)
-    valid = record { proper = reading-proper lim text f e; one-each = one-each; bits = bits; listed = afresh-listed f vs }
+    valid = record { proper = proper; one-each = one-each; bits = bits; listed = afresh-listed f vs }
+
+-- "one accepted clause file"
+pub text-acceptable : (lim : Limits) (text : List ℕ) (f : File) (vs ts : List ℕ) (t : Tables) → readText lim text ≡ accepted f
+    → length vs ≡ length (f .names) → Bits vs → length ts ≤ lim .list → all (λ v. ltb v (length (f .names))) ts ≡ true → areFull lim t ≡ true
+    → Acceptable lim ts (countsOf (afresh f vs)) (holding lim (afresh f vs) t)
+text-acceptable lim text f vs ts t e = file-acceptable lim f vs ts t (reading-proper lim text f e)

@@ -24,7 +24,7 @@ use Rattle.written.specs.Reading.{Reading, accepted, refused, readText}
 use Rattle.written.specs.Tables.{Tables, each, sizes, fullSizes, areFull, countsOf, holding, cleared, noCounts}
 use Rattle.written.specs.Agreement.{stateIn, agree}
 use Rattle.written.specs.Outcomes.{Leaves, unchanged, readLeaves, readingOf, readValues}
-use Rattle.laws.specs.Valid.{Valid}
+use Rattle.laws.specs.Valid.{Proper, Valid}
 use Rattle.laws.specs.ReadCalls.{Filled, LeftAlone, Emptied, Stopped, reasonGiven, countsGiven, Given}
 use Rattle.laws.proofs.Basics.{by-cases, by-lt, both, both-first, both-second}
 use Rattle.laws.proofs.Each.{each-at}
@@ -34,7 +34,7 @@ use Rattle.laws.proofs.Back.{holding-back}
 use Rattle.laws.proofs.Points.{Points, agree-points}
 use Rattle.laws.proofs.Stands.{stands-in}
 use Rattle.laws.proofs.Turns.{namesLine}
-use Rattle.laws.proofs.Readings.{reading-valid, file-words}
+use Rattle.laws.proofs.Readings.{reading-proper, reading-valid, as-read-valid, file-words}
 use Rattle.laws.proofs.Faults.{Placed, refusal-line}
 use Rattle.laws.proofs.Refusals.{fails-late, stops-exactly}
 
@@ -210,9 +210,10 @@ module _ (lim : Limits) (text : List ℕ) (t : Tables) where
 
 -- ---- what an accepted call leaves
 
-filled : (lim : Limits) (f : File) (t : Tables) → Valid lim (asRead f) → areFull lim t ≡ true → Filled lim f t (countsOf (asRead f)) (holding lim (asRead f) t)
+-- whatever kind of text the file was read from
+pub file-filled : (lim : Limits) (f : File) (t : Tables) → Proper lim f → areFull lim t ≡ true → Filled lim f t (countsOf (asRead f)) (holding lim (asRead f) t)
 unfolding countsOf asRead afresh stateIn
-filled lim f t v full =
+file-filled lim f t proper full =
     record {
       stands = stands-in lim (asRead f) t v full;
       values = ap (λ (s : State). s .values) back;
@@ -220,6 +221,9 @@ filled lim f t v full =
       worked-out = back ∙ ap (λ (g : File). afresh g (zeros (length (f .names)))) (sym (ap (λ (s : State). s .file) back));
     }
   where
+    v : Valid lim (asRead f)
+    v = as-read-valid lim f proper
+
     back : stateIn (countsOf (asRead f)) (holding lim (asRead f) t) ≡ asRead f
     back = holding-back lim (asRead f) t v
 
@@ -265,7 +269,7 @@ module _ (lim : Limits) (text : List ℕ) (t : Tables) where
         full,
         e,
         subst₂ (λ m u. Filled lim f t m u) (ap countsIn (sym (accepted-answer lim text t full f e) ∙ q)) (sym (accepted-tables lim text t full f e))
-            (filled lim f t (reading-valid lim text f e) full),
+            (file-filled lim f t (reading-proper lim text f e) full),
       ))
       (λ full e r. absurd (false≢true (ap isAccepted (sym (refused-answer lim text t full e r) ∙ q))))
 

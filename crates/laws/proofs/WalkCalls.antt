@@ -39,7 +39,7 @@ use Rattle.laws.proofs.Counted.{none-listed, some-listed}
 use Rattle.laws.proofs.Holding.{holding-by}
 use Rattle.laws.proofs.Agreeing.{agree-valid, agree-counts}
 use Rattle.laws.proofs.Flips.{flipped-file}
-use Rattle.laws.proofs.Readings.{reading-valid}
+use Rattle.laws.proofs.Readings.{reading-proper, as-read-valid}
 use Rattle.laws.proofs.Walks.{found-covers, gave-up-misses, walks-most, some-walk, gave-up-walks, flips-few, gave-up-flips}
 use Rattle.laws.proofs.Endings.{end-file, end-values}
 use Rattle.laws.proofs.Valids.{end-valid}
@@ -400,10 +400,15 @@ pub walk-twice : (lim : Limits) (o : Order) (n : Counts) (t : Tables)
     → walkOf lim o (walkValues (walkOf lim o n t .answer) .counts) (walkOf lim o n t .tables) ≡ walkOf lim o n t
 walk-twice lim o n t = tests lim o n t (λ h. walk-over lim o n t (h .range) o) (unmoved lim o n t o)
 
+-- a file laid down in full tables and walked over, whatever kind of text it was read from
+pub walk-file : (lim : Limits) (f : File) (o : Order) (t : Tables) → Proper lim f → areFull lim t ≡ true → inRange o ≡ true
+    → walkOf lim o (countsOf (asRead f)) (holding lim (asRead f) t) ≡ walkLeaves lim t (walkOver o f)
+unfolding asRead afresh
+walk-file lim f o t proper full range = walk-stands lim o (asRead f) t _ _ (stands-in lim (asRead f) t (as-read-valid lim f proper) full) range
+
 -- a text that is read and walked: the walks go over the file that it says
 pub walk-read : (lim : Limits) (text : List ℕ) (f : File) (o : Order) (t : Tables) → readText lim text ≡ accepted f → areFull lim t ≡ true → inRange o ≡ true
     → walkOf lim o (countsGiven lim text t) (readingOf lim text t .tables) ≡ walkLeaves lim t (walkOver o f)
-unfolding asRead afresh
 walk-read lim text f o t e full range =
     ap₂ (λ (a : Read) (u : Tables). walkOf lim o (readValues a .counts) u) (accepted-answer lim text t full f e) (accepted-tables lim text t full f e)
-    ∙ walk-stands lim o (asRead f) t _ _ (stands-in lim (asRead f) t (reading-valid lim text f e) full) range
+    ∙ walk-file lim f o t (reading-proper lim text f e) full range
