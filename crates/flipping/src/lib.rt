@@ -7,7 +7,7 @@ ghost use Rattle.written.specs.Lists.{steps};
 ghost use Rattle.machine.specs.Uncovered.{uncovered, leaves, CanLeave};
 ghost use Rattle.machine.specs.Tallies.{talliesAt, talliesBefore, talliesAfter, lowered, CanLower, pickOf};
 ghost use Rattle.machine.specs.Tallies.{belowOf, gainOne, loseOne, CanGain, CanLose, CanSteps};
-ghost use Rattle.machine.specs.Moving.{moving, occurring, upOf, flipTerm, CanFlip};
+ghost use Rattle.machine.specs.Moving.{movingAt, movingBefore, movingAfter, occurring, upOf, flipTerm, CanFlip};
 
 // One less at k.
 fn lower(counts: &mut [u16], k: usize)
@@ -191,10 +191,10 @@ pub fn flip_term(
     v: usize,
 ) -> usize
     requires { ⌜ CanFlip 65536 (occurring (now «occurrence_starts») (now occurrences)) v
-        (moving (now values) (talliesAt trues breaks list places number)) ⌝ }
-    ensures { λ r. ⌜ moving (now (values .exit)) (talliesAfter trues breaks list places r)
+        (movingAt values trues breaks list places number) ⌝ }
+    ensures { λ r. ⌜ movingAfter values trues breaks list places r
         ≡ flipTerm (occurring (now («occurrence_starts» .entry)) (now (occurrences .entry))) v
-        (moving (now (values .entry)) (talliesBefore trues breaks list places number)) ⌝ }
+        (movingBefore values trues breaks list places number) ⌝ }
 {
     let up = up_literal(values, v);
     words::turn(values, v);
@@ -219,10 +219,10 @@ pub fn flip_all(
 ) -> usize
     requires { ⌜ CanSteps (CanFlip 65536 (occurring (now «occurrence_starts») (now occurrences)))
         (flipTerm (occurring (now «occurrence_starts») (now occurrences))) (now terms)
-        (moving (now values) (talliesAt trues breaks list places number)) ⌝ }
-    ensures { λ r. ⌜ moving (now (values .exit)) (talliesAfter trues breaks list places r)
+        (movingAt values trues breaks list places number) ⌝ }
+    ensures { λ r. ⌜ movingAfter values trues breaks list places r
         ≡ steps (flipTerm (occurring (now («occurrence_starts» .entry)) (now (occurrences .entry)))) (now (terms .entry))
-        (moving (now (values .entry)) (talliesBefore trues breaks list places number)) ⌝ }
+        (movingBefore values trues breaks list places number) ⌝ }
 {
     let mut n = number;
     let mut k = 0;

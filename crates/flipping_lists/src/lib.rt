@@ -5,8 +5,7 @@ ghost use Rattle.written.specs.Lists.{all};
 ghost use Rattle.written.specs.Limits.{narrow};
 ghost use Rattle.written.specs.Lending.{lentBefore, lentAfter};
 ghost use Rattle.written.specs.Outcomes.{leaves, flipsOf};
-ghost use Rattle.machine.specs.Tallies.{talliesAt, talliesBefore, talliesAfter};
-ghost use Rattle.machine.specs.Moving.{fixedAt, fixedBefore, moving};
+ghost use Rattle.machine.specs.Moving.{fixedAt, fixedBefore, movingAt, movingBefore, movingAfter};
 ghost use Rattle.machine.specs.Passes.{applied, CanApply};
 ghost use Rattle.flipping_lists.specs.Tests.{testsOf};
 use written::Counts;
@@ -102,10 +101,10 @@ fn flip_list(
     number: usize,
 ) -> usize
     requires { ⌜ CanApply 65536 clauses (fixedAt starts literals «occurrence_starts» occurrences) (now list)
-        (moving (now values) (talliesAt trues breaks uncovered places number)) ⌝ }
-    ensures { λ r. ⌜ moving (now (values .exit)) (talliesAfter trues breaks uncovered places r)
+        (movingAt values trues breaks uncovered places number) ⌝ }
+    ensures { λ r. ⌜ movingAfter values trues breaks uncovered places r
         ≡ applied clauses (fixedBefore starts literals «occurrence_starts» occurrences) (now (list .entry))
-        (moving (now (values .entry)) (talliesBefore trues breaks uncovered places number)) ⌝ }
+        (movingBefore values trues breaks uncovered places number) ⌝ }
 {
     recounts::open_all(clauses, values, starts, literals, trues, places);
     let m = flipping::flip_all(

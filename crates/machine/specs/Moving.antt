@@ -8,7 +8,7 @@ use Rattle.written.specs.Lists.{total, steps}
 use Rattle.written.specs.Lending.{Held, Slice}
 use Rattle.written.specs.Agreement.{partOf}
 use Rattle.machine.specs.Literals.{valueIn, xorTrue, Readable}
-use Rattle.machine.specs.Tallies.{Tallies, gainOne, loseOne, CanGain, CanLose, CanSteps}
+use Rattle.machine.specs.Tallies.{Tallies, talliesAt, gainOne, loseOne, CanGain, CanLose, CanSteps}
 
 -- the tables that a flip only reads
 pub record Fixed : Type 0 where
@@ -40,6 +40,15 @@ pub record Moving : Type 0 where
 
 abbrev pub moving : List ℕ → Tallies → Moving
 moving ws t = record { words = ws; tallies = t }
+
+abbrev pub movingAt : Held → Held → Held → Held → Held → ℕ → Moving
+movingAt ws ts bs us ps n = moving (now ws) (talliesAt ts bs us ps n)
+
+abbrev pub movingBefore : Slice → Slice → Slice → Slice → Slice → ℕ → Moving
+movingBefore ws ts bs us ps n = movingAt (ws .entry) (ts .entry) (bs .entry) (us .entry) (ps .entry) n
+
+abbrev pub movingAfter : Slice → Slice → Slice → Slice → Slice → ℕ → Moving
+movingAfter ws ts bs us ps n = movingAt (ws .exit) (ts .exit) (bs .exit) (us .exit) (ps .exit) n
 
 -- what is read of a clause: the value words, clause starts, literals
 pub record View : Type 0 where

@@ -4,8 +4,7 @@ ghost use mathlib.Core.Path.{_≡_};
 ghost use Prim.Native.Nat.{_≤_};
 ghost use lib.ListN.{length};
 ghost use Rattle.written.specs.Limits.{narrow};
-ghost use Rattle.machine.specs.Tallies.{talliesAt, talliesBefore, talliesAfter};
-ghost use Rattle.machine.specs.Moving.{fixedAt, fixedBefore, fixedAfter, moving};
+ghost use Rattle.machine.specs.Moving.{fixedAt, fixedBefore, fixedAfter, movingAt, movingBefore, movingAfter};
 ghost use Rattle.reading_lines.specs.Drafting.{deskBefore, deskAfter};
 ghost use Rattle.reading_end.specs.Tests.{textTests};
 ghost use Rattle.reading_end.specs.Clearing.{wiped, othersBefore, othersAfter, wipedOthers, restZeroed};
@@ -94,11 +93,11 @@ pub fn finish(
     places: &mut [u16],
 ) -> Counts
     requires { ⌜ CanFinish 65536 narrow p (fixedAt starts literals «occurrence_starts» occurrences)
-        (moving (now values) (talliesAt trues breaks uncovered places 0)) ⌝ }
+        (movingAt values trues breaks uncovered places 0) ⌝ }
     ensures { λ r. ⌜ finishing r (fixedAfter starts literals «occurrence_starts» occurrences)
-        (moving (now (values .entry)) (talliesAfter trues breaks uncovered places (r .uncovered)))
+        (movingAfter values trues breaks uncovered places (r .uncovered))
         ≡ finished narrow p (fixedBefore starts literals «occurrence_starts» occurrences)
-        (moving (now (values .entry)) (talliesBefore trues breaks uncovered places 0)) ⌝ }
+        (movingBefore values trues breaks uncovered places 0) ⌝ }
 {
     let terms = p.terms;
     let clauses = p.clauses;

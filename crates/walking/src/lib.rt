@@ -7,9 +7,8 @@ ghost use Rattle.written.specs.Limits.{narrow};
 ghost use Rattle.written.specs.Lending.{lentAt, lentBefore, lentAfter};
 ghost use Rattle.written.specs.Outcomes.{leaves};
 ghost use Rattle.laws.specs.WalkCalls.{Allowed};
-ghost use Rattle.machine.specs.Tallies.{talliesAt, talliesBefore, talliesAfter};
 ghost use Rattle.machine.specs.Moving.{fixedAt, fixedBefore};
-ghost use Rattle.walking_steps.specs.Stepping.{stand};
+ghost use Rattle.walking_steps.specs.Stepping.{standAt, standBefore, standAfter};
 ghost use Rattle.walking.specs.Walking.{end, walksIn, CanWalks};
 ghost use Rattle.walking.specs.Made.{walkMade};
 use draw::Generator;
@@ -44,11 +43,10 @@ fn all_walks(
 ) -> Ended
     requires { ⌜ CanWalks 65536 (length (now ties)) (2 ^ 32) (n .terms) (n .clauses) (order .walks) order
         (fixedAt starts literals «occurrence_starts» occurrences)
-        (stand (now values) (talliesAt trues breaks list places (from .number)) (from .generator .state) (from .flips)) ⌝ }
-    ensures { λ r. ⌜ end (r .found) (r .walks) (stand (now (values .exit)) (talliesAfter trues breaks list places (r .at .number))
-        (r .at .generator .state) (r .at .flips))
+        (standAt values trues breaks list places from) ⌝ }
+    ensures { λ r. ⌜ end (r .found) (r .walks) (standAfter values trues breaks list places (r .at))
         ≡ walksIn order (n .terms) (n .clauses) (fixedBefore starts literals «occurrence_starts» occurrences) (order .walks) 0
-        (stand (now (values .entry)) (talliesBefore trues breaks list places (from .number)) (from .generator .state) (from .flips)) ⌝ }
+        (standBefore values trues breaks list places from) ⌝ }
 {
     let mut at = from;
     let mut begun: u32 = 0;

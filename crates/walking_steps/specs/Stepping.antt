@@ -4,14 +4,17 @@ use mathlib.Core.Bool.{Bool, cond}
 use mathlib.Core.List.{List}
 use lib.ListN.{length, take}
 use lib.Dec.{eqb}
+use denote.Ref.{now}
 use Rattle.words.specs.Words.{filled, stateAfter, wordCount}
 use Rattle.written.specs.declared.Order.{Order}
 use Rattle.written.specs.Drawing.{Pick, chosenFrom}
+use Rattle.written.specs.Lending.{Held, Slice}
 use Rattle.written.specs.Agreement.{partOf}
-use Rattle.machine.specs.Tallies.{Tallies}
+use Rattle.machine.specs.Tallies.{Tallies, talliesAt}
 use Rattle.machine.specs.Moving.{Fixed, Moving, moving, view, flipTerm, CanPart, CanFlip}
 use Rattle.machine.specs.Passes.{recounted, CanRecount}
 use Rattle.walking_choice.specs.Choosing.{breakIn, literalBy, CanDraw, CanPick}
+use Rattle.walking_steps.specs.declared.At.{At}
 
 -- where the walks stand: the tables that they write, the generator's state, and the flips summed
 pub record Stand : Type 0 where
@@ -21,6 +24,16 @@ pub record Stand : Type 0 where
 
 abbrev pub stand : List ℕ → Tallies → ℕ → ℕ → Stand
 stand ws t y k = record { tables = moving ws t; generator = y; flips = k }
+
+-- those of lent tables, and of what goes beside them by value
+abbrev pub standAt : Held → Held → Held → Held → Held → At → Stand
+standAt ws ts bs us ps a = stand (now ws) (talliesAt ts bs us ps (a .number)) (a .generator .state) (a .flips)
+
+abbrev pub standBefore : Slice → Slice → Slice → Slice → Slice → At → Stand
+standBefore ws ts bs us ps a = standAt (ws .entry) (ts .entry) (bs .entry) (us .entry) (ps .entry) a
+
+abbrev pub standAfter : Slice → Slice → Slice → Slice → Slice → At → Stand
+standAfter ws ts bs us ps a = standAt (ws .exit) (ts .exit) (bs .exit) (us .exit) (ps .exit) a
 
 -- how many clauses are uncovered, and which
 abbrev pub uncoveredNumber : Stand → ℕ

@@ -5,9 +5,8 @@ ghost use mathlib.Core.Path.{_≡_};
 ghost use mathlib.Core.List.{[]};
 ghost use Prim.Native.Nat.{_+_, _^_, _<_};
 ghost use lib.ListN.{length};
-ghost use Rattle.machine.specs.Tallies.{talliesAt, talliesBefore, talliesAfter};
 ghost use Rattle.machine.specs.Moving.{fixed, fixedAt, fixedBefore};
-ghost use Rattle.walking_steps.specs.Stepping.{stand, stepIn, CanStep, startIn, CanStart, onwardsIn, walkIn};
+ghost use Rattle.walking_steps.specs.Stepping.{standAt, standBefore, standAfter, stepIn, CanStep, startIn, CanStart, onwardsIn, walkIn};
 ghost use Rattle.walking_steps.specs.Following.{CanBegin, CanGo};
 use draw::Generator;
 use written::Counts;
@@ -36,11 +35,11 @@ fn step(
     at: At,
 ) -> At
     requires { ⌜ CanStep 65536 (length (now ties)) order (fixedAt starts literals «occurrence_starts» occurrences)
-        (stand (now values) (talliesAt trues breaks list places (at .number)) (at .generator .state) (at .flips))
+        (standAt values trues breaks list places at)
         × (at .flips + 1 < 2 ^ 32) ⌝ }
-    ensures { λ r. ⌜ stand (now (values .exit)) (talliesAfter trues breaks list places (r .number)) (r .generator .state) (r .flips)
+    ensures { λ r. ⌜ standAfter values trues breaks list places r
         ≡ stepIn order (fixedBefore starts literals «occurrence_starts» occurrences)
-        (stand (now (values .entry)) (talliesBefore trues breaks list places (at .number)) (at .generator .state) (at .flips)) ⌝ }
+        (standBefore values trues breaks list places at) ⌝ }
 {
     let number = at.number;
     let g = at.generator;
@@ -84,10 +83,10 @@ fn onwards(
     from: At,
 ) -> At
     requires { ⌜ CanGo 65536 (length (now ties)) (order .flips) (2 ^ 32) (fixedAt starts literals «occurrence_starts» occurrences)
-        (stand (now values) (talliesAt trues breaks list places (from .number)) (from .generator .state) (from .flips)) ⌝ }
-    ensures { λ r. ⌜ stand (now (values .exit)) (talliesAfter trues breaks list places (r .number)) (r .generator .state) (r .flips)
+        (standAt values trues breaks list places from) ⌝ }
+    ensures { λ r. ⌜ standAfter values trues breaks list places r
         ≡ onwardsIn order (fixedBefore starts literals «occurrence_starts» occurrences) (order .flips)
-        (stand (now (values .entry)) (talliesBefore trues breaks list places (from .number)) (from .generator .state) (from .flips)) ⌝ }
+        (standBefore values trues breaks list places from) ⌝ }
 {
     let last = from.flips + order.flips;
     let mut at = from;
@@ -126,10 +125,10 @@ fn start(
     from: At,
 ) -> At
     requires { ⌜ CanStart 65536 (n .terms) (n .clauses) (fixed (now starts) (now literals) [] [])
-        (stand (now values) (talliesAt trues breaks list places (from .number)) (from .generator .state) (from .flips)) ⌝ }
-    ensures { λ r. ⌜ stand (now (values .exit)) (talliesAfter trues breaks list places (r .number)) (r .generator .state) (r .flips)
+        (standAt values trues breaks list places from) ⌝ }
+    ensures { λ r. ⌜ standAfter values trues breaks list places r
         ≡ startIn (n .terms) (n .clauses) (fixed (now (starts .entry)) (now (literals .entry)) [] [])
-        (stand (now (values .entry)) (talliesBefore trues breaks list places (from .number)) (from .generator .state) (from .flips)) ⌝ }
+        (standBefore values trues breaks list places from) ⌝ }
 {
     let terms = n.terms as usize;
     let g = from.generator;
@@ -169,11 +168,11 @@ pub fn one_walk(
     from: At,
 ) -> At
     requires { ⌜ CanBegin 65536 (length (now ties)) (n .terms) (n .clauses) (fixedAt starts literals «occurrence_starts» occurrences)
-        (stand (now values) (talliesAt trues breaks list places (from .number)) (from .generator .state) (from .flips))
+        (standAt values trues breaks list places from)
         × (from .flips + order .flips < 2 ^ 32) ⌝ }
-    ensures { λ r. ⌜ stand (now (values .exit)) (talliesAfter trues breaks list places (r .number)) (r .generator .state) (r .flips)
+    ensures { λ r. ⌜ standAfter values trues breaks list places r
         ≡ walkIn order (n .terms) (n .clauses) (fixedBefore starts literals «occurrence_starts» occurrences)
-        (stand (now (values .entry)) (talliesBefore trues breaks list places (from .number)) (from .generator .state) (from .flips)) ⌝ }
+        (standBefore values trues breaks list places from) ⌝ }
 {
     let at = start(
         n,
