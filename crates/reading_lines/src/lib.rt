@@ -5,7 +5,6 @@ ghost use lib.ListN.{length};
 ghost use Rattle.scan.specs.Scan.{lineOf};
 ghost use Rattle.written.specs.Limits.{narrow};
 ghost use Rattle.written.specs.Reasons.{faultAt};
-ghost use Rattle.written.specs.Reading.{nextLine};
 ghost use Rattle.names.specs.Finding.{homes};
 ghost use Rattle.reading_lines.specs.declared.Next.the-variants.{Refused};
 ghost use Rattle.reading_lines.specs.Drafting.{deskAt, deskBefore, deskAfter, Going, TurnsBy, Blank, Drawn};
@@ -157,15 +156,6 @@ fn at_token(
     }
 }
 
-// Past the end of the line that the cursor stands in.
-fn next_line(text: &[u8], c: Cursor) -> Cursor
-    ensures { λ r. ⌜ r ≡ nextLine (now (text .entry)) c ⌝ }
-{
-    let end = c.pass(text);
-    let s = end.next(text);
-    s.next
-}
-
 // The whole text, from its start.
 pub fn draft(
     text: &[u8],
@@ -197,7 +187,7 @@ pub fn draft(
             }
             Next::Drops(q) => {
                 p = q;
-                c = next_line(text, after);
+                c = after.over(text);
             }
             Next::Whole(q) => {
                 return Ended::Whole(q);

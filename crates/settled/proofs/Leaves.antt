@@ -18,6 +18,7 @@ use Rattle.words.proofs.least as least
 use Rattle.scan.proofs.Cursor.first as first
 use Rattle.scan.proofs.Cursor.next as next
 use Rattle.scan.proofs.Cursor.pass as pass
+use Rattle.scan.proofs.Cursor.over as over
 use Rattle.scan.proofs.scan_at as scan-at
 use Rattle.scan.proofs.cut_off as cut-off
 use Rattle.scan.proofs.line_end as line-end
@@ -88,6 +89,9 @@ next-settled M 𝓤 H A mem run κs a g = record { asks-nothing = refl; one-outc
 
 pub pass-settled : Public pass.ended (λ M. pass.clauses)
 pass-settled M 𝓤 H A mem run κs a g = record { asks-nothing = refl; one-outcome = λ x y. both 𝓤 (λ p q. same (meet p q) refl) }
+
+pub over-settled : Public over.ended (λ M. over.clauses)
+over-settled M 𝓤 H A mem run κs a g = record { asks-nothing = refl; one-outcome = λ x y. both 𝓤 (λ p q. same (meet p q) refl) }
 
 pub scan-at-settled : Public scan-at.ended (λ M. scan-at.clauses)
 scan-at-settled M 𝓤 H A mem run κs a g = record { asks-nothing = refl; one-outcome = λ x y. both 𝓤 (λ p q. same (meet p q) refl) }

@@ -49,7 +49,7 @@ loop-less-2 c =
     let a = c .before .before .before .before .before .before .before .before .before .before .before .before .before .before in
     let b = a .before .before .before .before .before .before .before in
     let r = turned-on homes narrow _ _ _ _ _ (b .before .loop .inv) _ _ _ (b .next .ensures) (a .at-token .ensures) in
-    rw (c .next-line .ensures) ((rw (c .before .before .q2 .given .1) at r) .1)
+    rw (c .over .ensures) ((rw (c .before .before .q2 .given .1) at r) .1)
 
 loop-again-2 : tie.Need-loop-again-2 Inv-loop μ-loop
 loop-again-2 c =
@@ -57,7 +57,7 @@ loop-again-2 c =
     let b = a .before .before .before .before .before .before .before in
     let k = a .at-token .kept in
     let r = turned-on homes narrow _ _ _ _ _ (b .before .loop .inv) _ _ _ (b .next .ensures) (a .at-token .ensures) in
-    rw (c .next-line .ensures)
+    rw (c .over .ensures)
     ((rw (c .before .before .q2 .given .1) at r) .0
     (record { names-long = k .0; starts-long = k .1 .0; literals-long = k .1 .1 .0; stamps-long = k .1 .1 .1 .0; slots-long = k .1 .1 .1 .1 .0 }))
 
