@@ -91,7 +91,8 @@ enum {
     NGI_OUT_OF_RANGE = 11,     /* a number is outside its range */
     NGI_TABLES_DISAGREE = 12,  /* no clause stands, or the tables do not agree; some count or entry of a table is not what the others say */
     NGI_UNKNOWN_TERM = 13,     /* a term is named that is not there; a flip list has one not below the term count */
-    NGI_LIST_TOO_LONG = 14     /* a flip list is too long; over NGI_LIST entries */
+    NGI_LIST_TOO_LONG = 14,    /* a flip list is too long; over NGI_LIST entries */
+    NGI_BLANK_LINE = 15        /* a line is empty or has spaces only; ~ alone may stand in a line that is to say nothing */
 };
 
 /* The answer to a draw, a choice or heads. */
@@ -117,7 +118,7 @@ ngi_drawn ngi_heads(uint32_t state, uint32_t bias);
 typedef struct {
     uint32_t result; /* 1 accepted, 0 refused */
     uint32_t reason; /* NGI_NO_REASON where it was accepted */
-    uint32_t line;   /* of the fault, counted from 1, for reasons 4 to 8; else 0 */
+    uint32_t line;   /* of the fault, counted from 1, for reasons 4 to 8 and 15; else 0 */
     uint32_t terms, clauses, literals, uncovered; /* the four counts; all 0 where it was refused */
 } ngi_read_answer;
 
@@ -125,7 +126,7 @@ typedef struct {
  * Reads clause text, one clause to a line, into the tables, whatever they held. An accepted reading leaves every value 0, true counts, break
  * counts, uncovered list and places worked out for that, the list in rising clause order, and 0 in the entries past those in use, up to the
  * full sizes. A reading refused for reason 1 changes nothing; refused for another, it leaves 0 in every entry up to the full sizes. Reasons
- * are tested in the order 1, 2, 3, then the text from the left, up to the first fault (4 to 8), whose line is told, then 9.
+ * are tested in the order 1, 2, 3, then the text from the left, up to the first fault (4 to 8, 15), whose line is told, then 9.
  */
 ngi_read_answer ngi_read(const uint8_t *text, size_t text_length, /* clause text; over NGI_TEXT bytes is reason 2 */
                          NGI_TABLE_PARAMETERS(NGI_WRITTEN));

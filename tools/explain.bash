@@ -152,9 +152,10 @@ hint() { # REASON LINE
     6) echo "there may be at most 2,048 terms" ;;
     7) echo "there may be at most 16,384 literals, those of all clauses together" ;;
     8) echo "there may be at most 8,192 clauses" ;;
-    9) echo "every line after the sheet is empty, a comment, or true in any case" ;;
+    9) echo "every line after the sheet is a comment or true in any case, or there is none" ;;
     10) hint_form "$2" ;;
     11) echo "${sheet[$2 - 1]}= takes a number from ${ranges[$2 - 1]}" ;;
+    15) echo "name there what is missing, or take the line out; a line of ~ alone says nothing" ;;
     esac
 }
 

@@ -31,8 +31,11 @@ EDITS = {
         ('leb (lim .clauses) (length (d .clauses))', 'ltb (lim .clauses) (length (d .clauses))'),
         ('atToken lim d (True n) = drops (dropped d)', 'atToken lim d (True n) = goes d'),
         ('ltb (lim .text) (length t)', 'leb (lim .text) (length t)'),
-        ('nextLine t c = scan t (passed t c) .next', 'nextLine t c = passed t c'),
-        ('nextLine t c = scan t (passed t c) .next', 'nextLine t c = scan t c .next'),
+        ('nextLine t c = lineOver t c', 'nextLine t c = c'),
+        ('nextLine t c = lineOver t c', 'nextLine t c = scan t c .next'),
+        ('stops (faultAt n BlankLine)', 'goes d'),
+        ('stops (faultAt n BlankLine)', 'stops (fault BlankLine)'),
+        ('stops (faultAt n BlankLine)', 'drops d'),
         ('dropped d = record { names = d .names; clauses = d .clauses; line = [] }', 'dropped d = record { names = d .names; clauses = d .clauses; line = d .line }'),
         ('cond (has name names) names (names ++ name ∷ [])', 'names ++ name ∷ []'),
     ],
@@ -119,7 +122,6 @@ EDITS = {
 
 # edits that mean the same, with the reason
 SAME = {
-    ("Reading", "nextLine t c = passed t c"): "the line's end is then told, and a line without literals is skipped",
     ("Agreement", "eqb (getD (t .starts) 0 0) 0"): "the occurrences are as many as the literals, so none stands before the first start",
     ("Agreement", "eqb (getD (t .starts) (n .clauses) 0) (n .literals)"): "the occurrences are as many as the literals",
     ("Agreement", "all (λ l. ltb l (2 * n .terms)) ls"): "a literal of no term has no occurrence",

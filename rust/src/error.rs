@@ -51,11 +51,13 @@ pub enum Reason {
     UnknownTerm = 13,
     /// 14: a flip list is too long. At most 65,536 flips.
     ListTooLong = 14,
+    /// 15: a line is empty or has spaces only. A term with no parent left would go unplaced.
+    BlankLine = 15,
 }
 
 impl Reason {
     /// All of them, in the order of their numbers.
-    pub const ALL: [Reason; 14] = [
+    pub const ALL: [Reason; 15] = [
         Reason::TableTooShort,
         Reason::TextTooLong,
         Reason::TextCut,
@@ -70,6 +72,7 @@ impl Reason {
         Reason::TablesDisagree,
         Reason::UnknownTerm,
         Reason::ListTooLong,
+        Reason::BlankLine,
     ];
 
     /// The number, as the program prints it.
@@ -98,6 +101,7 @@ impl Reason {
             Reason::TablesDisagree => "no clause stands, or the tables do not agree",
             Reason::UnknownTerm => "a term is named that is not there",
             Reason::ListTooLong => "a flip list is too long",
+            Reason::BlankLine => "a line is empty or has spaces only",
         }
     }
 }
@@ -108,7 +112,7 @@ impl Error {
         self.reason
     }
 
-    /// The line of the fault in the text, counted from 1; reasons 4 to 8 have one.
+    /// The line of the fault in the text, counted from 1; reasons 4 to 8 and 15 have one.
     pub fn line(&self) -> Option<u32> {
         self.line
     }

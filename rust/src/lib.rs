@@ -18,7 +18,7 @@
 //!
 //! [`run`] does the same for an order sheet, and returns the lines that the program prints.
 //!
-//! Every call ends, with an answer or with an [`Error`] that has one of fourteen reasons. Nothing is
+//! Every call ends, with an answer or with an [`Error`] that has one of fifteen reasons. Nothing is
 //! left for the caller to keep in step: the counts stay beside the tables that they belong to, and
 //! every table has its full size.
 //!

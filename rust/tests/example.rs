@@ -77,7 +77,7 @@ fn a_term_may_be_named_by_any_bytes_from_33_to_125() {
 
 #[test]
 fn terms_of_dropped_lines_and_repeated_literals() {
-    let tables = read("a ~a c\nb b ~d\n~ e\n\n");
+    let tables = read("a ~a c\nb b ~d\n~ e\n");
     assert!(tables.terms().map(|(name, _)| name).eq(["a", "b", "d"]));
     assert!(tables.clauses().eq(["b ~d"]));
 }

@@ -40,7 +40,7 @@ fn reason_3_an_open_end() {
 
 #[test]
 fn reason_4_a_bad_byte() {
-    assert_refused("a\n\na\tb\n", Reason::ByteNotAllowed, Some(3));
+    assert_refused("a\n~\na\tb\n", Reason::ByteNotAllowed, Some(3));
     assert_refused("a~b\n", Reason::ByteNotAllowed, Some(1));
 }
 
@@ -75,7 +75,14 @@ fn reason_8_no_room_for_a_clause() {
 #[test]
 fn reason_9_no_clause() {
     assert_refused("", Reason::NoClause, None);
-    assert_refused("~ note\na ~a\n\n", Reason::NoClause, None);
+    assert_refused("~ note\na ~a\n", Reason::NoClause, None);
+}
+
+#[test]
+fn reason_15_a_blank_line() {
+    assert_refused("\n", Reason::BlankLine, Some(1));
+    assert_refused("a b\n~ note\n   \n~a b\n", Reason::BlankLine, Some(3));
+    assert_eq!(read("a b\n~\n~a b\n").counts().clauses, 2);
 }
 
 /// A sheet is read by a run alone.

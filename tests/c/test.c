@@ -154,6 +154,8 @@ static void refused_readings(void)
     CHECK(all_are_zero());
     CHECK(ngi_read(BYTES("a b"), NGI_LEND(t)).reason == NGI_TEXT_CUT);
     CHECK(ngi_read(BYTES(""), NGI_LEND(t)).reason == NGI_NO_CLAUSE);
+    r = ngi_read(BYTES("a b\n  \n"), NGI_LEND(t));
+    CHECK(r.result == 0 && r.reason == NGI_BLANK_LINE && r.line == 2);
 }
 
 static void walking(void)

@@ -133,8 +133,8 @@ fn readings() {
     text(b"- `abcdefghi` is reason 5, line 1.\n", b"abcdefghi\n");
     text(b"- `a~b`: 4, line 1.\n", b"a~b\n");
     text(b"- `a` without byte 10: 3.\n", b"a");
-    text(b"- an empty line alone: 9.\n", b"\n");
-    text(b"- `a` then an empty line: one clause.\n", b"a\n\n");
+    text(b"- an empty line alone: 15, line 1.\n", b"\n");
+    text(b"- `a` then an empty line: 15, line 2.\n", b"a\n\n");
     text(
         b"- `a ~`, a space, then a tab: dropped unread, 9.\n",
         b"a ~ \t\n",

@@ -3,7 +3,7 @@ use Prim.Native.Nat.{ℕ, _≤_, _<_}
 use Prim.Native.String.{String}
 use mathlib.Core.Logic.{_⊎_, inl, inr}
 use mathlib.Core.Path.{_≡_, refl, ap, ap₂, sym, subst, _∙_}
-use mathlib.Core.Bool.{true, false, cond}
+use mathlib.Core.Bool.{true, false, cond, false≢true}
 use mathlib.Core.List.{List, [], _∷_, _++_}
 use native.Mathlib.Omega.{arith}
 use lib.ListN.{length, getD, drop, length-drop, List·getD-eq-default}
@@ -16,7 +16,7 @@ use Rattle.written.specs.declared.Ordered.{Ordered}
 use Rattle.written.specs.declared.Ordered.the-variants as O
 use Rattle.written.specs.declared.Fault.{Fault}
 use Rattle.written.specs.declared.Reason.{Reason}
-use Rattle.written.specs.declared.Reason.the-variants.{TableTooShort, TextTooLong, TextCut, ByteNotAllowed, NinthByte, TooManyTerms, TooManyLiterals, TooManyClauses, NoClause, SheetForm, OutOfRange, TablesDisagree, UnknownTerm, ListTooLong}
+use Rattle.written.specs.declared.Reason.the-variants.{TableTooShort, TextTooLong}
 use Rattle.written.specs.Lists.{all}
 use Rattle.written.specs.Limits.{Limits}
 use Rattle.written.specs.Reasons.{numberOf, fault}
@@ -26,14 +26,16 @@ use Rattle.written.specs.Walk.{Outcome, walkOver}
 use Rattle.written.specs.Sheet.{isDigit, valueOfDigits, sheetOf}
 use Rattle.written.specs.Printed.{decimal, line, refusedBy, refusal, report}
 use Rattle.written.specs.Program.{Course, unbegun, unread, walked, afterReading, afterSheet, courseOf, said, printed}
+use Rattle.laws.specs.Reasons.{ofText, ofSheet}
 use Rattle.laws.specs.Sheets.{Faulty, Says}
 use Rattle.laws.specs.Sheets.Faulty.{wrong-form, out-of-range}
 use Rattle.laws.specs.RunCalls.{Begins, Finds, GivesUp, IsRefused, Decides, Begun, textAfter, Refuses, Given}
 use Rattle.laws.specs.RunCalls.Refuses.{too-long, bad-sheet, bad-text}
 use Rattle.laws.proofs.Basics.{by-cases, by-lt, both-first, both-second}
+use Rattle.laws.proofs.Reasons.{reasons, reason-at, text-not-sheet}
 use Rattle.laws.proofs.Decimals.{decimal-digits, decimal-value}
 use Rattle.laws.proofs.Sheets.{sheet-says}
-use Rattle.laws.proofs.ReadCalls.{reasonIn, text-2, text-to, refused-from}
+use Rattle.laws.proofs.ReadCalls.{reasonIn, text-2, text-reason}
 
 -- ---- the tests in their order
 
@@ -76,23 +78,22 @@ module _ (lim : Limits) (input : List ℕ) where
 
 -- ---- which reasons
 
--- a sheet's are 10 and 11
-fault-reason : (k : ℕ) (input : List ℕ) (r : Reason) → Faulty k input r → (10 ≤ numberOf r) × (numberOf r ≤ 11)
-fault-reason k input _ (wrong-form h) = (omega arith, omega arith)
-fault-reason k input _ (out-of-range h l) = (omega arith, omega arith)
+fault-reason : (k : ℕ) (input : List ℕ) (r : Reason) → Faulty k input r → ofSheet r ≡ true
+fault-reason k input _ (wrong-form h) = refl
+fault-reason k input _ (out-of-range h l) = refl
 
-pub sheet-reasons : (input : List ℕ) (e : Fault) → sheetOf input ≡ O.Refused e → (10 ≤ numberOf (e .reason)) × (numberOf (e .reason) ≤ 11)
+pub sheet-reasons : (input : List ℕ) (e : Fault) → sheetOf input ≡ O.Refused e → ofSheet (e .reason) ≡ true
 sheet-reasons input e q = let n = subst (Says input) q (sheet-says input) in fault-reason (n .line) input (e .reason) (n .faulty)
 
--- a text's are 3 to 9, since no part of the input is longer than the whole
+-- a text is not too long, since no part of the input is longer than the whole
 pub text-reasons : (lim : Limits) (input : List ℕ) (s : Sheet) (e : Fault) → Begun lim input s → readText lim (textAfter s input) ≡ refused e
-    → (3 ≤ numberOf (e .reason)) × (numberOf (e .reason) ≤ 9)
-text-reasons lim input s e b q =
-    let rest = textAfter s input in
-    let few : length rest ≤ lim .text = omega (arith, length-drop (s .at) input, b .short) in
-    let same : reasonIn (readText lim rest) ≡ numberOf (e .reason) = ap reasonIn q in
-    let other : numberOf (e .reason) ≡ 2 → ⊥ = λ two. omega (arith, text-2 lim rest .0 (same ∙ two)) in
-    (omega (arith, refused-from lim rest e q, other), omega (arith, same, text-to lim rest))
+    → ofText (e .reason) ≡ true
+text-reasons lim input s e b q = own (text-reason lim (textAfter s input) e q)
+  where
+    own : (e .reason ≡ TextTooLong) ⊎ (ofText (e .reason) ≡ true) → ofText (e .reason) ≡ true
+    own (inl long) =
+        absurd (omega (arith, length-drop (s .at) input, b .short, text-2 lim (textAfter s input) .0 (ap reasonIn q ∙ ap numberOf long)))
+    own (inr h) = h
 
 -- ---- no two faults are printed alike
 
@@ -112,26 +113,6 @@ numbers-end : (m n : ℕ) (x y : List ℕ) → decimal m ++ 10 ∷ x ≡ decimal
 numbers-end m n x y e =
     let r = digits-end (decimal m) (decimal n) x y (decimal-digits m) (decimal-digits n) e in
     (sym (decimal-value m) ∙ ap valueOfDigits (r .0) ∙ decimal-value n, r .1)
-
--- each reason by its number
-abbrev reasons : List Reason
-reasons = TableTooShort ∷ TableTooShort ∷ TextTooLong ∷ TextCut ∷ ByteNotAllowed ∷ NinthByte ∷ TooManyTerms ∷ TooManyLiterals ∷ TooManyClauses ∷ NoClause ∷ SheetForm ∷ OutOfRange ∷ TablesDisagree ∷ UnknownTerm ∷ ListTooLong ∷ []
-
-reason-at : (r : Reason) → getD reasons (numberOf r) TableTooShort ≡ r
-reason-at TableTooShort = refl
-reason-at TextTooLong = refl
-reason-at TextCut = refl
-reason-at ByteNotAllowed = refl
-reason-at NinthByte = refl
-reason-at TooManyTerms = refl
-reason-at TooManyLiterals = refl
-reason-at TooManyClauses = refl
-reason-at NoClause = refl
-reason-at SheetForm = refl
-reason-at OutOfRange = refl
-reason-at TablesDisagree = refl
-reason-at UnknownTerm = refl
-reason-at ListTooLong = refl
 
 pub refusal-one : (d e : Fault) → refusal d ≡ refusal e → d ≡ e
 unfolding refusedBy
@@ -265,34 +246,33 @@ module _ (lim : Limits) (input : List ℕ) where
       (λ s d b q h. subst (Refuses lim input) (refusal-one d e h) (bad-text s d b q))
       (λ s f b q h. absurd (report-other _ e h))
 
-  -- which of the three, by its number
-  was-long : (e : Fault) → Refuses lim input e → numberOf (e .reason) ≤ 2 → lim .text < length input
+  -- which of the three, by the reason
+  was-long : (e : Fault) → Refuses lim input e → e .reason ≡ TextTooLong → lim .text < length input
   was-long _ (too-long l) two = l
-  was-long e (bad-sheet _ h q) two = absurd (omega (arith, sheet-reasons input e q .0))
-  was-long e (bad-text s _ b q) two = absurd (omega (arith, text-reasons lim input s e b q .0))
+  was-long e (bad-sheet _ h q) two = absurd (false≢true (sym (ap ofSheet two) ∙ sheet-reasons input e q))
+  was-long e (bad-text s _ b q) two = absurd (false≢true (sym (ap ofText two) ∙ text-reasons lim input s e b q))
 
-  was-sheet : (e : Fault) → Refuses lim input e → 10 ≤ numberOf (e .reason) → (length input ≤ lim .text) × (sheetOf input ≡ O.Refused e)
-  was-sheet _ (too-long l) late = absurd (omega arith)
-  was-sheet e (bad-sheet _ h q) late = (h, q)
-  was-sheet e (bad-text s _ b q) late = absurd (omega (arith, text-reasons lim input s e b q .1))
+  was-sheet : (e : Fault) → Refuses lim input e → ofSheet (e .reason) ≡ true → (length input ≤ lim .text) × (sheetOf input ≡ O.Refused e)
+  was-sheet _ (too-long l) own = absurd (false≢true own)
+  was-sheet e (bad-sheet _ h q) own = (h, q)
+  was-sheet e (bad-text s _ b q) own = absurd (false≢true (sym (text-not-sheet (e .reason) (text-reasons lim input s e b q)) ∙ own))
 
-  was-text : (e : Fault) → Refuses lim input e → 3 ≤ numberOf (e .reason) → numberOf (e .reason) ≤ 9
-      → (s : Sheet) × Begun lim input s × (readText lim (textAfter s input) ≡ refused e)
-  was-text _ (too-long l) from up = absurd (omega arith)
-  was-text e (bad-sheet _ h q) from up = absurd (omega (arith, sheet-reasons input e q .0))
-  was-text e (bad-text s _ b q) from up = (s, b, q)
+  was-text : (e : Fault) → Refuses lim input e → ofText (e .reason) ≡ true → (s : Sheet) × Begun lim input s × (readText lim (textAfter s input) ≡ refused e)
+  was-text _ (too-long l) own = absurd (false≢true own)
+  was-text e (bad-sheet _ h q) own = absurd (false≢true (sym (text-not-sheet (e .reason) own) ∙ sheet-reasons input e q))
+  was-text e (bad-text s _ b q) own = (s, b, q)
 
-  refuses-reasons : (e : Fault) → Refuses lim input e → (2 ≤ numberOf (e .reason)) × (numberOf (e .reason) ≤ 11)
-  refuses-reasons _ (too-long l) = (omega arith, omega arith)
-  refuses-reasons e (bad-sheet _ h q) = let r = sheet-reasons input e q in (omega (arith, r .0), r .1)
-  refuses-reasons e (bad-text s _ b q) = let r = text-reasons lim input s e b q in (omega (arith, r .0), omega (arith, r .1))
+  refuses-reasons : (e : Fault) → Refuses lim input e → (e .reason ≡ TextTooLong) ⊎ ((ofText (e .reason) ≡ true) ⊎ (ofSheet (e .reason) ≡ true))
+  refuses-reasons _ (too-long l) = inl refl
+  refuses-reasons e (bad-sheet _ h q) = inr (inr (sheet-reasons input e q))
+  refuses-reasons e (bad-text s _ b q) = inr (inl (text-reasons lim input s e b q))
 
   pub run-given : Given lim input
   run-given =
       record {
         exactly = λ e. (prints-refuses e, refuses-prints e);
-        reason-2 = (λ p. was-long (fault TextTooLong) (prints-refuses (fault TextTooLong) p) (omega arith), λ l. refuses-prints (fault TextTooLong) (too-long l));
-        of-text = λ e from up. (λ p. was-text e (prints-refuses e p) from up, λ h. refuses-prints e (bad-text (h .0) e (h .1) (h .2)));
-        of-sheet = λ e late. (λ p. was-sheet e (prints-refuses e p) late, λ h. refuses-prints e (bad-sheet e (h .0) (h .1)));
+        reason-2 = (λ p. was-long (fault TextTooLong) (prints-refuses (fault TextTooLong) p) refl, λ l. refuses-prints (fault TextTooLong) (too-long l));
+        of-text = λ e own. (λ p. was-text e (prints-refuses e p) own, λ h. refuses-prints e (bad-text (h .0) e (h .1) (h .2)));
+        of-sheet = λ e own. (λ p. was-sheet e (prints-refuses e p) own, λ h. refuses-prints e (bad-sheet e (h .0) (h .1)));
         no-other = λ e p. refuses-reasons e (prints-refuses e p);
       }

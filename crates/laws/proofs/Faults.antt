@@ -1,4 +1,4 @@
--- The line of a refused reading: one of the text's for reasons 4 to 8, else 0. Assumes nothing.
+-- The line of a refused reading: one of the text's where the reason names one, else 0. Assumes nothing.
 use Prim.Native.Nat.{ℕ, suc, _≤_, _<_}
 use mathlib.Core.Path.{_≡_, refl, ap, sym, subst, _∙_}
 use mathlib.Core.Bool.{true, false, cond, false≢true, true≢false}
@@ -16,10 +16,11 @@ use Rattle.written.specs.Lists.{times}
 use Rattle.written.specs.Limits.{Limits}
 use Rattle.written.specs.Reasons.{fault, faultAt}
 use Rattle.written.specs.Reading.{Reading, Draft, accepted, refused, nothing, atTextEnd, readText}
+use Rattle.laws.specs.Reasons.{namesLine}
 use Rattle.laws.proofs.Basics.{by-cases, by-test}
 use Rattle.laws.proofs.Sums.{total-take}
 use Rattle.laws.proofs.Times.{times-le}
-use Rattle.laws.proofs.Turns.{Keeps, namesLine, read-by}
+use Rattle.laws.proofs.Turns.{Keeps, read-by}
 use Rattle.laws.proofs.Lines.{linesTo, lines-all, scan-lined}
 
 -- a fault's line is one of the text's lines, or 0
@@ -94,7 +95,7 @@ reading-told lim t =
     by-test (Told t) (openEnd t) (λ _. no-line t TextCut refl) (λ closed.
     read-by (λ c d. Stands t c) (Told t) lim t (λ c d _. end-told t (d .names) (d .clauses)) (turn-told lim t closed) (suc (length t)) start nothing (start-stands t)))
 
--- a refused reading names one of the text's lines for reasons 4 to 8, and else 0
+-- a refused reading names one of the text's lines where its reason does, and else 0
 pub refusal-line : (lim : Limits) (t : List ℕ) (e : Fault) → readText lim t ≡ refused e → Placed t e
 refusal-line lim t e h = subst (Told t) h (reading-told lim t)
 

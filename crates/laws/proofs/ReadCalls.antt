@@ -7,12 +7,11 @@ use mathlib.Core.Bool.{Bool, true, false, false≢true, true≢false}
 use mathlib.Core.List.{List, [], _∷_}
 use native.Mathlib.Omega.{arith}
 use lib.ListN.{length, getD, take, drop, length-replicate, getD-replicate, List·getD-append}
-use lib.Dec.{ltb}
-use borrow.Author.Tests.{le-ltb, lt-ltb, ltb-true, eqb-false, ne-eqb, not-true}
+use borrow.Author.Tests.{le-ltb, lt-ltb, eqb-false, ne-eqb, not-true}
 use Rattle.scan.specs.Scan.{scan, openEnd}
 use Rattle.scan.proofs.Laws.{getD-any}
 use Rattle.written.specs.declared.Counts.{Counts}
-use Rattle.written.specs.declared.Reason.the-variants.{TableTooShort, NoClause}
+use Rattle.written.specs.declared.Reason.the-variants.{TableTooShort, TextTooLong, TextCut, NoClause}
 use Rattle.written.specs.declared.Fault.{Fault}
 use Rattle.written.specs.declared.Read.{Read}
 use Rattle.written.specs.declared.Read.the-variants as R
@@ -25,15 +24,16 @@ use Rattle.written.specs.Tables.{Tables, each, sizes, fullSizes, areFull, count
 use Rattle.written.specs.Agreement.{stateIn, agree}
 use Rattle.written.specs.Outcomes.{Leaves, unchanged, readLeaves, readingOf, readValues}
 use Rattle.laws.specs.Valid.{Proper, Valid}
+use Rattle.laws.specs.Reasons.{namesLine, ofText}
 use Rattle.laws.specs.ReadCalls.{Filled, LeftAlone, Emptied, Stopped, reasonGiven, countsGiven, Given}
-use Rattle.laws.proofs.Basics.{by-cases, by-lt, both, both-first, both-second}
+use Rattle.laws.proofs.Basics.{by-cases, by-lt}
 use Rattle.laws.proofs.Each.{each-at}
 use Rattle.laws.proofs.Each.Table.{Values, Starts}
 use Rattle.laws.proofs.Holding.{tables-at, cleared-at, holding-full, cleared-full, holding-take, cleared-take, holding-beyond, cleared-beyond, holding-by, cleared-by}
 use Rattle.laws.proofs.Back.{holding-back}
 use Rattle.laws.proofs.Points.{Points, agree-points}
 use Rattle.laws.proofs.Stands.{stands-in}
-use Rattle.laws.proofs.Turns.{namesLine}
+use Rattle.laws.proofs.Reasons.{line-of-text, line-not-last, late-number}
 use Rattle.laws.proofs.Readings.{reading-proper, reading-valid, as-read-valid, file-words}
 use Rattle.laws.proofs.Faults.{Placed, refusal-line}
 use Rattle.laws.proofs.Refusals.{fails-late, stops-exactly}
@@ -70,19 +70,24 @@ abbrev pub reasonIn : Reading → ℕ
 reasonIn (accepted f) = 0
 reasonIn (refused e) = numberOf (e .reason)
 
--- what the text's own bytes come to: reasons 4 to 8, and then 9
+-- what the text's own bytes come to: reasons that name a line, and then 9
 abbrev Late : Reading → Type 0
 Late (accepted f) = Unit {0}
 Late (refused e) = (namesLine (e .reason) ≡ true) ⊎ (e ≡ fault NoClause)
 
 late-from : (e : Fault) → Late (refused e) → 4 ≤ numberOf (e .reason)
-late-from e (inl h) = ltb-true 3 (numberOf (e .reason)) (both-first _ _ h)
-late-from e (inr h) = omega (arith, ap (λ (x : Fault). numberOf (x .reason)) h)
+late-from e (inl h) = late-number (e .reason) (inl h)
+late-from e (inr h) = late-number (e .reason) (inr (ap (λ (x : Fault). x .reason) h))
 
-late-to : (r : Reading) → Late r → reasonIn r ≤ 9
-late-to (accepted f) h = omega arith
-late-to (refused e) (inl h) = omega (arith, ltb-true (numberOf (e .reason)) 9 (both-second (ltb 3 (numberOf (e .reason))) _ h))
-late-to (refused e) (inr h) = omega (arith, ap (λ (x : Fault). numberOf (x .reason)) h)
+-- the reasons by which a text is refused
+abbrev Own : Reading → Type 0
+Own (accepted f) = Unit {0}
+Own (refused e) = (e .reason ≡ TextTooLong) ⊎ (ofText (e .reason) ≡ true)
+
+late-own : (r : Reading) → Late r → Own r
+late-own (accepted f) h = tt
+late-own (refused e) (inl h) = inr (line-of-text (e .reason) h)
+late-own (refused e) (inr h) = inr (ap (λ (x : Fault). ofText (x .reason)) h)
 
 late-some : (r : Reading) → Late r → 0 < reasonIn r → 4 ≤ reasonIn r
 late-some (accepted f) h l = absurd (omega arith)
@@ -94,7 +99,7 @@ late-none (refused e) h q = absurd (omega (arith, late-from e h))
 
 late-last : (r : Reading) → Late r → reasonIn r ≡ 9 → r ≡ refused (fault NoClause)
 late-last (accepted f) h q = absurd (omega arith)
-late-last (refused e) (inl h) q = absurd (omega (arith, ltb-true (numberOf (e .reason)) 9 (both-second (ltb 3 (numberOf (e .reason))) _ h)))
+late-last (refused e) (inl h) q = absurd (line-not-last (e .reason) h q)
 late-last (refused e) (inr h) q = ap refused h
 
 module _ (lim : Limits) (text : List ℕ) where
@@ -104,13 +109,19 @@ module _ (lim : Limits) (text : List ℕ) where
   abbrev number : ℕ
   number = reasonIn read
 
-  is-long : lim .text < length text → number ≡ 2
+  pub long-read : lim .text < length text → readText lim text ≡ refused (fault TextTooLong)
   unfolding readText
-  is-long l = rw (lt-ltb (lim .text) (length text) l) refl
+  long-read l = rw (lt-ltb (lim .text) (length text) l) refl
+
+  pub open-read : length text ≤ lim .text → openEnd text ≡ true → readText lim text ≡ refused (fault TextCut)
+  unfolding readText
+  open-read s o = rw (le-ltb (lim .text) (length text) s, o) refl
+
+  is-long : lim .text < length text → number ≡ 2
+  is-long l = ap reasonIn (long-read l)
 
   is-open : length text ≤ lim .text → openEnd text ≡ true → number ≡ 3
-  unfolding readText
-  is-open s o = rw (le-ltb (lim .text) (length text) s, o) refl
+  is-open s o = ap reasonIn (open-read s o)
 
   is-late : length text ≤ lim .text → openEnd text ≡ false → Late (readText lim text)
   is-late s c =
@@ -138,12 +149,9 @@ module _ (lim : Limits) (text : List ℕ) where
   text-1 : number ≡ 1 → ⊥
   text-1 q = by-tests (λ n. omega arith) (λ n _. omega arith) (λ h. omega (arith, late-some read h (omega arith)))
 
-  pub refused-from : (e : Fault) → readText lim text ≡ refused e → 2 ≤ numberOf (e .reason)
-  refused-from e r =
-      by-tests (λ n _. omega (arith, ap reasonIn r)) (λ n _ _. omega (arith, ap reasonIn r)) (λ h. omega (arith, late-from e (subst Late r h)))
-
-  pub text-to : number ≤ 9
-  text-to = by-tests (λ n _. omega arith) (λ n _ _. omega arith) (λ h. late-to read h)
+  pub text-reason : (e : Fault) → readText lim text ≡ refused e → (e .reason ≡ TextTooLong) ⊎ (ofText (e .reason) ≡ true)
+  text-reason e r =
+      subst Own r (by-tests (λ _ l. subst Own (sym (long-read l)) (inl refl)) (λ _ s o. subst Own (sym (open-read s o)) (inr refl)) (late-own read))
 
 -- "text not empty and last byte not 10"
 pub open-exactly : (text : List ℕ) → (openEnd text ≡ true) ↔ ((0 < length text) × (getD text (length text - 1) 0 ≡ 10 → ⊥))
@@ -239,12 +247,10 @@ emptied lim text t e full r =
     record {
       lent-full = full;
       read = r;
-      from-2 = refused-from lim text e r;
-      to-9 = omega (arith, text-to lim text, ap reasonIn r);
-      some-line = λ a b. placed .some (both _ _ (lt-ltb 3 (numberOf (e .reason)) a) (lt-ltb (numberOf (e .reason)) 9 (omega arith)));
+      which = text-reason lim text e r;
+      some-line = placed .some;
       last-line = placed .most;
-      line-before = λ h. placed .none (rw (le-ltb 3 (numberOf (e .reason)) h) refl);
-      line-after = λ h. placed .none (rw h refl);
+      no-line = placed .none;
       left = refl;
       in-full-sizes = cleared-take lim t;
       beyond = cleared-beyond lim t;
@@ -340,18 +346,19 @@ module _ (lim : Limits) (text : List ℕ) (t : Tables) where
     λ h. full-reason (h .0) ∙ exactly .1 (h .1),
   )
 
-  from-left : (e : Fault) → 4 ≤ numberOf (e .reason) → (readingOf lim text t .answer ≡ R.Refused e) ↔ Stopped lim text t e
+  from-left : (e : Fault) → (namesLine (e .reason) ≡ true) ⊎ (e .reason ≡ NoClause) → (readingOf lim text t .answer ≡ R.Refused e) ↔ Stopped lim text t e
   from-left e late = (
     λ q. by-cases (areFull lim t)
         (λ full.
         let r = text-fault full e q in
         let n = ap reasonIn r in
+        let far = late-number (e .reason) late in
         by-lt (lim .text) (length text) (λ l. absurd (omega (arith, is-long lim text l)))
         (λ s. by-cases (openEnd text) (λ o. absurd (omega (arith, is-open lim text s o)))
         (λ c.
         let h = stops-exactly lim text s c e .0 r in
         record { full = full; short = s; closed = c; cursor = h .0; draft = h .1; comes = h .2; fails = h .3 })))
-        (λ short. absurd (omega (arith, ap (λ (x : Fault). numberOf (x .reason)) (short-fault short e q)))),
+        (λ short. absurd (omega (arith, late-number (e .reason) late, ap (λ (x : Fault). numberOf (x .reason)) (short-fault short e q)))),
     λ h. refused-answer lim text t (h .full) e (stops-exactly lim text (h .short) (h .closed) e .1 (h .cursor, h .draft, h .comes, h .fails)),
   )
 
@@ -363,7 +370,8 @@ module _ (lim : Limits) (text : List ℕ) (t : Tables) where
         reason-3 = where-full 3 (λ e. omega arith) (text-3 lim text);
         from-left = from-left;
         reason-9 = where-full 9 (λ e. omega arith) (text-9 lim text);
-        to-9 = by-cases (areFull lim t) (λ full. omega (arith, full-reason full, text-to lim text)) (λ short. omega (arith, short-reason short));
+        no-other = λ e q. by-cases (areFull lim t) (λ full. inr (text-reason lim text e (text-fault full e q)))
+            (λ short. inl (ap (λ (x : Fault). x .reason) (short-fault short e q)));
         no-reason = where-full 0 (λ e. omega arith) (text-0 lim text);
       }
 
@@ -372,7 +380,9 @@ module _ (lim : Limits) (text : List ℕ) (t : Tables) where
   reading-agrees = (
     λ q. by-outcome lim text t (λ s. absurd (omega (arith, short-reason s)))
         (λ full f e. let a = accepted-answer lim text t full f e in given a ∙ reading-accepted (countsOf (asRead f)) a .3 .stands .agrees)
-        (λ full e r. absurd (omega (arith, full-reason full, ap reasonIn r, refused-from lim text e r))),
+        (λ full e r.
+        let a = text-0 lim text .0 (sym (full-reason full) ∙ q) in
+        absurd (reading-not-both (countsOf (asRead (a .0))) e (accepted-answer lim text t full (a .0) (a .1)) (refused-answer lim text t full e r))),
     λ h. by-outcome lim text t (λ s. absurd (disagrees (fault TableTooShort) h (short-answer lim text t s))) (λ full f e. full-reason full ∙ ap reasonIn e)
         (λ full e r. absurd (disagrees e h (refused-answer lim text t full e r))),
   )

@@ -14,17 +14,17 @@ use Rattle.scan.specs.declared.Token.{Token}
 use Rattle.scan.specs.declared.Token.the-variants.{Literal, True, Line, End, Cut, Bad, Long}
 use Rattle.scan.specs.Scan.{scan, start, openEnd, reasonOf}
 use Rattle.scan.proofs.Closed.{no-cut}
-use Rattle.written.specs.declared.Reason.the-variants.{ByteNotAllowed, NinthByte, TooManyTerms, TooManyLiterals, TooManyClauses, NoClause}
+use Rattle.written.specs.declared.Reason.the-variants.{ByteNotAllowed, NinthByte, TooManyTerms, TooManyLiterals, TooManyClauses, NoClause, BlankLine}
 use Rattle.written.specs.declared.Fault.{Fault}
 use Rattle.written.specs.Lists.{has}
 use Rattle.written.specs.Limits.{Limits}
 use Rattle.written.specs.Reasons.{fault, faultAt}
-use Rattle.written.specs.Reading.{Reading, Draft, Turn, accepted, refused, goes, drops, ends, stops, numbered, held, nothing, atLiteral, atLineEnd, atTextEnd, atToken, nextLine, led, readFrom, readText}
+use Rattle.written.specs.Reading.{Reading, Draft, Turn, accepted, refused, goes, drops, ends, stops, numbered, held, kept, nothing, atLiteral, atLineEnd, atTextEnd, atToken, nextLine, led, readFrom, readText}
+use Rattle.laws.specs.Reasons.{namesLine}
 use Rattle.laws.specs.ReadCalls.{Comes, Fresh, Fails}
 use Rattle.laws.specs.ReadCalls.Comes.{begins, goes-on, drops-line}
-use Rattle.laws.specs.ReadCalls.Fails.{bad-byte, ninth-byte, term-room, literal-room, clause-room, no-clause}
+use Rattle.laws.specs.ReadCalls.Fails.{bad-byte, ninth-byte, term-room, literal-room, clause-room, blank-line, no-clause}
 use Rattle.laws.proofs.Basics.{by-cases, by-test, both-first, both-second}
-use Rattle.laws.proofs.Turns.{namesLine}
 use Rattle.laws.proofs.Fuel.{left, Falls, turn-falls, fuel-same}
 
 -- ---- the token at which a reading stops
@@ -72,7 +72,7 @@ module _ (lim : Limits) (d : Draft) (e : Fault) where
 
   line-stops : (n : ℕ) (ls : List ℕ) → d .line ≡ ls → Stopping lim d (Line n) e (atLineEnd lim d n ls)
   unfolding atLineEnd
-  line-stops n [] same = onward refl
+  line-stops n [] same = by-fault (faultAt n BlankLine) (blank-line n same)
   line-stops n (l ∷ ls) same =
       by-test (Stopping lim d (Line n) e) (leb (lim .clauses) (length (d .clauses)))
       (λ full. by-fault (faultAt n TooManyClauses) (clause-room n (omega (arith, ap length same)) (leb-true (lim .clauses) (length (d .clauses)) full)))
@@ -94,10 +94,21 @@ module _ (lim : Limits) (d : Draft) (e : Fault) where
   token-stops (Bad n) whole = by-fault (faultAt n ByteNotAllowed) (bad-byte n)
   token-stops (Long n) whole = by-fault (faultAt n NinthByte) (ninth-byte n)
 
-line-full : (lim : Limits) (d : Draft) (n : ℕ) (ls : List ℕ) → 0 < length ls → lim .clauses ≤ length (d .clauses) → atLineEnd lim d n ls ≡ stops (faultAt n TooManyClauses)
+-- a line's end, by the line's literals
+pub line-none : (lim : Limits) (d : Draft) (n : ℕ) (ls : List ℕ) → length ls ≡ 0 → atLineEnd lim d n ls ≡ stops (faultAt n BlankLine)
+unfolding atLineEnd
+line-none lim d n [] none = refl
+line-none lim d n (l ∷ ls) none = absurd (omega arith)
+
+pub line-full : (lim : Limits) (d : Draft) (n : ℕ) (ls : List ℕ) → 0 < length ls → lim .clauses ≤ length (d .clauses) → atLineEnd lim d n ls ≡ stops (faultAt n TooManyClauses)
 unfolding atLineEnd
 line-full lim d n [] some full = absurd (omega arith)
 line-full lim d n (l ∷ ls) some full = rw (le-leb (lim .clauses) (length (d .clauses)) full) refl
+
+pub line-room : (lim : Limits) (d : Draft) (n : ℕ) (ls : List ℕ) → 0 < length ls → length (d .clauses) < lim .clauses → atLineEnd lim d n ls ≡ goes (kept d)
+unfolding atLineEnd
+line-room lim d n [] some room = absurd (omega arith)
+line-room lim d n (l ∷ ls) some room = rw (lt-leb (lim .clauses) (length (d .clauses)) room) refl
 
 token-fails : (lim : Limits) (d : Draft) (k : Token) (e : Fault) → Fails lim d k e → atToken lim d k ≡ stops e
 unfolding atToken atLiteral atTextEnd
@@ -108,15 +119,17 @@ token-fails lim d k e (literal-room l fresh room full) =
     by-cases (has (l .name) (d .names)) (λ known. rw (fresh .once, fresh .one-way, known, le-leb (lim .literals) (held d) full) refl)
     (λ new. rw (fresh .once, fresh .one-way, new, lt-leb (lim .terms) (length (d .names)) (room new), le-leb (lim .literals) (held d) full) refl)
 token-fails lim d k e (clause-room n some full) = line-full lim d n (d .line) some full
+token-fails lim d k e (blank-line n none) = line-none lim d n (d .line) (ap length none)
 token-fails lim d k e (no-clause n bare) = rw bare refl
 
--- so the reasons are 4 to 8, and 9
+-- so the reasons are those that name a line, and 9
 pub fails-late : (lim : Limits) (d : Draft) (k : Token) (e : Fault) → Fails lim d k e → (namesLine (e .reason) ≡ true) ⊎ (e ≡ fault NoClause)
 fails-late lim d k e (bad-byte n) = inl refl
 fails-late lim d k e (ninth-byte n) = inl refl
 fails-late lim d k e (term-room l fresh new full) = inl refl
 fails-late lim d k e (literal-room l fresh room full) = inl refl
 fails-late lim d k e (clause-room n some full) = inl refl
+fails-late lim d k e (blank-line n none) = inl refl
 fails-late lim d k e (no-clause n bare) = inr refl
 
 -- ---- where a reading comes by

@@ -7,15 +7,14 @@ use mathlib.Core.List.{List, [], _∷_, _++_}
 use native.Mathlib.Omega.{arith}
 use native.Mathlib.Nat.{mul-le-mul}
 use lib.ListN.{length, drop, length-append, length-drop}
-use lib.Dec.{ltb, lit<}
+use lib.Dec.{ltb}
 use borrow.Author.Tests.{ltb-false}
 use Rattle.scan.specs.Text.{bytes}
 use Rattle.written.specs.declared.Order.{Order}
 use Rattle.written.specs.declared.Ordered.{Ordered}
 use Rattle.written.specs.declared.Ordered.the-variants.{Accepted, Refused}
 use Rattle.written.specs.declared.Fault.{Fault}
-use Rattle.written.specs.declared.Reason.{Reason}
-use Rattle.written.specs.declared.Reason.the-variants.{TableTooShort, TextTooLong, TextCut, ByteNotAllowed, NinthByte, TooManyTerms, TooManyLiterals, TooManyClauses, NoClause, SheetForm, OutOfRange, TablesDisagree, UnknownTerm, ListTooLong}
+use Rattle.written.specs.declared.Reason.the-variants.{TextTooLong}
 use Rattle.written.specs.Limits.{Limits}
 use Rattle.written.specs.Reasons.{numberOf, fault}
 use Rattle.written.specs.Clauses.{File}
@@ -26,6 +25,7 @@ use Rattle.written.specs.Orders.{flipsEach, walksAll}
 use Rattle.written.specs.Printed.{decimal, line, answer, chosen, refusedBy, refusal, report}
 use Rattle.written.specs.Program.{afterReading, afterSheet, courseOf, said, printed, reportSize}
 use Rattle.laws.proofs.Basics.{by-cases}
+use Rattle.laws.proofs.Reasons.{reason-below}
 use Rattle.laws.proofs.Readings.{reading-proper}
 use Rattle.laws.proofs.Faults.{refusal-line-bound}
 use Rattle.laws.proofs.Walks.{walks-most, flips-most}
@@ -39,27 +39,11 @@ use Rattle.laws.proofs.Sheets.{Ranged, ranged, Judged, sheet-judged}
 pub line-length : (key : String) (value : List ℕ) → length (line key value) ≡ length (bytes key) + length value + 1
 line-length key value = simp length-append (omega arith)
 
-reason-small : (r : Reason) → numberOf r < 10 ^ 2
-reason-small TableTooShort = lit< tt
-reason-small TextTooLong = lit< tt
-reason-small TextCut = lit< tt
-reason-small ByteNotAllowed = lit< tt
-reason-small NinthByte = lit< tt
-reason-small TooManyTerms = lit< tt
-reason-small TooManyLiterals = lit< tt
-reason-small TooManyClauses = lit< tt
-reason-small NoClause = lit< tt
-reason-small SheetForm = lit< tt
-reason-small OutOfRange = lit< tt
-reason-small TablesDisagree = lit< tt
-reason-small UnknownTerm = lit< tt
-reason-small ListTooLong = lit< tt
-
 -- a refusal takes 31 bytes and the digits of its line
 pub refusal-length : (e : Fault) (k : ℕ) → 0 < k → e .line < 10 ^ k → length (refusal e) ≤ 31 + k
 unfolding refusedBy
 refusal-length e k h l =
-    let n = decimal-length 2 (numberOf (e .reason)) (omega arith) (reason-small (e .reason)) in
+    let n = decimal-length 2 (numberOf (e .reason)) (omega arith) (omega (arith, reason-below (e .reason))) in
     let m = decimal-length k (e .line) h l in
     simp length-append (omega arith)
 

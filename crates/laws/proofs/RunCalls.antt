@@ -3,7 +3,7 @@
 use Prim.Native.Nat.{ℕ, suc, _+_, _*_, _^_, _≤_, _<_}
 use mathlib.Core.Logic.{_↔_, _⊎_, inl, inr}
 use mathlib.Core.Path.{_≡_, refl, ap, ap₂, sym, subst, _∙_}
-use mathlib.Core.Bool.{Bool, true, false, false≢true}
+use mathlib.Core.Bool.{Bool, true, false, false≢true, true≢false}
 use mathlib.Core.List.{List, [], _∷_, _++_, map, append-assoc}
 use native.Mathlib.Omega.{arith}
 use lib.ListN.{length, getD, take, drop}
@@ -19,7 +19,6 @@ use Rattle.written.specs.declared.RunAnswer.{RunAnswer}
 use Rattle.written.specs.declared.Walked.{Walked}
 use Rattle.written.specs.Lists.{listOf, has}
 use Rattle.written.specs.Limits.{Limits}
-use Rattle.written.specs.Reasons.{numberOf}
 use Rattle.written.specs.Clauses.{File, termOf}
 use Rattle.written.specs.Flips.{trueLiteral}
 use Rattle.written.specs.Reading.{accepted, readText}
@@ -33,7 +32,7 @@ use Rattle.laws.specs.Calls.{Stands}
 use Rattle.laws.specs.ReadCalls.{countsGiven}
 use Rattle.laws.specs.RunCalls.{Told, Begins, Begun, textAfter, Refuses, Refused, Walks, namesAt, clausesAt, valuesAt, tokens, literals, namesIn, readBack, beforeAnswer, answerTokens, answerLiterals, FoundAnswer, GaveUpAnswer}
 use Rattle.laws.specs.RunCalls.Refuses.{too-long, bad-sheet, bad-text}
-use Rattle.laws.proofs.Basics.{by-cases, by-lt, both}
+use Rattle.laws.proofs.Basics.{by-cases, by-lt}
 use Rattle.laws.proofs.Lists.{over-length}
 use Rattle.laws.proofs.All.{all-getD}
 use Rattle.laws.proofs.Padding.{over-take, over-drop, over-by}
@@ -42,6 +41,7 @@ use Rattle.laws.proofs.Counted.{none-listed, some-listed}
 use Rattle.laws.proofs.Sizes.{clause-below}
 use Rattle.laws.proofs.Holding.{holding-full, cleared-full, holding-beyond, cleared-beyond, holding-by, cleared-by, holding-again, cleared-again}
 use Rattle.laws.proofs.Readings.{reading-proper}
+use Rattle.laws.proofs.Reasons.{text-not-sheet}
 use Rattle.laws.proofs.Faults.{refusal-line}
 use Rattle.laws.proofs.Walks.{found-covers, gave-up-misses, gave-up-walks, gave-up-flips}
 use Rattle.laws.proofs.Endings.{end-file}
@@ -240,37 +240,33 @@ module _ (lim : Limits) (input : List ℕ) (t : Tables) where
   refused _ (too-long l) =
       record {
         refuses = too-long l;
-        text-line = λ h k. absurd (omega arith);
-        sheet-line = λ h. absurd (omega arith);
-        line-before = λ h. refl;
-        line-after = λ h. refl;
+        text-line = λ h. absurd (false≢true h);
+        sheet-line = λ h. absurd (false≢true h);
+        no-line = λ h k. refl;
         emptied = λ h. ap (tablesAfter lim t) (long-course lim input l);
-        unchanged = λ h. absurd (omega arith);
+        unchanged = λ h. absurd (false≢true h);
       }
   refused e (bad-sheet _ h q) =
       let r = sheet-reasons input e q in
       let lined = subst (Judged (length input)) q (sheet-judged input) in
       record {
         refuses = bad-sheet e h q;
-        text-line = λ k m. lined .0;
+        text-line = λ k. lined .0;
         sheet-line = λ k. (lined .0, lined .1);
-        line-before = λ k. absurd (omega (arith, r .0));
-        line-after = λ k. absurd (omega (arith, r .0));
-        emptied = λ k. absurd (omega (arith, r .0));
+        no-line = λ k m. absurd (true≢false (sym r ∙ m));
+        emptied = λ k. absurd (true≢false (sym r ∙ k));
         unchanged = λ k. ap (tablesAfter lim t) (sheet-course lim input e h q);
       }
   refused e (bad-text s _ b q) =
-      let r = text-reasons lim input s e b q in
+      let other = text-not-sheet (e .reason) (text-reasons lim input s e b q) in
       let lined = refusal-line lim (textAfter s input) e q in
-      let n = numberOf (e .reason) in
       record {
         refuses = bad-text s e b q;
-        text-line = λ k m. lined .some (both _ _ (lt-ltb 3 n k) (lt-ltb n 9 (omega arith)));
-        sheet-line = λ k. absurd (omega (arith, r .1));
-        line-before = λ k. lined .none (rw (le-ltb 3 n k) refl);
-        line-after = λ k. lined .none (rw k refl);
+        text-line = lined .some;
+        sheet-line = λ k. absurd (false≢true (sym other ∙ k));
+        no-line = λ k m. lined .none k;
         emptied = λ k. ap (tablesAfter lim t) (text-course lim input s e b q);
-        unchanged = λ k. absurd (omega (arith, r .1));
+        unchanged = λ k. absurd (false≢true (sym other ∙ k));
       }
 
   pub run-refused : (b : List ℕ) (e : Fault) → areFull lim t ≡ true → reportSize lim ≤ length b → printed lim input ≡ refusal e

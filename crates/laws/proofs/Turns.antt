@@ -13,11 +13,12 @@ use Rattle.scan.specs.declared.Token.{Token}
 use Rattle.scan.specs.declared.Token.the-variants.{Literal, True, Line, End, Cut, Bad, Long}
 use Rattle.scan.specs.Scan.{scan, takes, reasonOf, lineOf}
 use Rattle.written.specs.declared.Reason.{Reason}
-use Rattle.written.specs.declared.Reason.the-variants.{TextCut, ByteNotAllowed, NinthByte, TooManyTerms, TooManyLiterals, TooManyClauses}
+use Rattle.written.specs.declared.Reason.the-variants.{TextCut, ByteNotAllowed, NinthByte, TooManyTerms, TooManyLiterals, TooManyClauses, BlankLine}
 use Rattle.written.specs.Lists.{has}
 use Rattle.written.specs.Limits.{Limits}
-use Rattle.written.specs.Reasons.{numberOf, fault, faultAt}
+use Rattle.written.specs.Reasons.{fault, faultAt}
 use Rattle.written.specs.Reading.{Reading, Draft, Turn, refused, goes, drops, ends, numbered, held, taken, kept, dropped, atLiteral, atLineEnd, atTextEnd, atToken, nextLine, led, readFrom}
+use Rattle.laws.specs.Reasons.{namesLine}
 use Rattle.laws.proofs.Basics.{by-test}
 
 -- after a turn: P of where reading goes on, Q of what it ends with
@@ -29,10 +30,6 @@ After P Q t c (ends r) = Q r
 -- whether a token tells of a place in the text: it takes bytes, or is reason 4 or 5
 abbrev pub inText : Token → Bool
 inText k = takes k || ltb 3 (reasonOf k)
-
--- "The line is that of the fault for 4 to 8 [..], else 0"
-abbrev pub namesLine : Reason → Bool
-namesLine r = ltb 3 (numberOf r) && ltb (numberOf r) 9
 
 -- a literal that is neither skipped nor refused, and drops no line
 pub record Room (lim : Limits) (d : Draft) (l : Lit) : Type 0 where
@@ -65,7 +62,7 @@ module _ (P : Cursor → Draft → Type 0) (Q : Reading → Type 0) (lim : Limit
 
   line-by : (n : ℕ) (ls : List ℕ) → d .line ≡ ls → Keeps P Q lim t c d (Line n) → After P Q t c (atLineEnd lim d n ls)
   unfolding atLineEnd
-  line-by n [] e h = h .skip refl
+  line-by n [] e h = h .refuse refl BlankLine refl
   line-by n (l ∷ ls) e h =
       by-test (After P Q t c) (leb (lim .clauses) (length (d .clauses))) (λ _. h .refuse refl TooManyClauses refl) (λ room.
       h .keep refl (omega (arith, ap length e)) (leb-false (lim .clauses) (length (d .clauses)) room))

@@ -1,6 +1,7 @@
 -- What the laws speak of beside the definitions of `written`, and value words worked out.
 pub mod Valid
 pub mod Calls
+pub mod Reasons
 pub mod Demands
 pub mod ReadCalls
 pub mod FlipCalls

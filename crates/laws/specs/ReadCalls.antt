@@ -1,18 +1,19 @@
 -- A reading as a call, in the document's words: `readingOf lim text t` is what it answers and leaves, of clause text and lent tables t.
 -- Assumes nothing.
 use Prim.Native.Nat.{ℕ, _≤_, _<_}
-use mathlib.Core.Logic.{_↔_}
+use mathlib.Core.Logic.{_↔_, _⊎_}
 use mathlib.Core.Path.{_≡_}
-use mathlib.Core.Bool.{true, false, not}
+use mathlib.Core.Bool.{Bool, true, false, not}
 use mathlib.Core.List.{List, []}
-use lib.ListN.{length, take, drop}
+use lib.ListN.{length, getD, take, drop}
+use lib.Dec.{eqb}
 use Rattle.scan.specs.declared.Cursor.{Cursor}
 use Rattle.scan.specs.declared.Lit.{Lit}
 use Rattle.scan.specs.declared.Token.{Token}
 use Rattle.scan.specs.declared.Token.the-variants.{Literal, Line, End, Bad, Long}
-use Rattle.scan.specs.Scan.{scan, start, openEnd}
+use Rattle.scan.specs.Scan.{past, scan, start, openEnd}
 use Rattle.written.specs.declared.Counts.{Counts}
-use Rattle.written.specs.declared.Reason.the-variants.{TableTooShort, ByteNotAllowed, NinthByte, TooManyTerms, TooManyLiterals, TooManyClauses, NoClause}
+use Rattle.written.specs.declared.Reason.the-variants.{TableTooShort, TextTooLong, ByteNotAllowed, NinthByte, TooManyTerms, TooManyLiterals, TooManyClauses, NoClause, BlankLine}
 use Rattle.written.specs.declared.Fault.{Fault}
 use Rattle.written.specs.declared.Read.the-variants as R
 use Rattle.written.specs.Lists.{has, times, zeros}
@@ -24,6 +25,7 @@ use Rattle.written.specs.Tables.{Tables, each, fullSizes, areFull, cleared, noC
 use Rattle.written.specs.Agreement.{fileIn, stateIn, agree}
 use Rattle.written.specs.Outcomes.{readingOf, readValues}
 use Rattle.laws.specs.Calls.{Stands}
+use Rattle.laws.specs.Reasons.{namesLine, ofText}
 
 -- ---- what a call leaves
 
@@ -55,14 +57,12 @@ pub record Emptied (lim : Limits) (text : List ℕ) (t : Tables) (e : Fault) (u 
   pub lent-full : areFull lim t ≡ true
   pub read : readText lim text ≡ refused e
   -- "A reading tests 1, 2, 3, then the text from the left, then 9."
-  pub from-2 : 2 ≤ numberOf (e .reason)
-  pub to-9 : numberOf (e .reason) ≤ 9
-  -- "The line is that of the fault for 4 to 8": one of the text's, of which there are as many as bytes 10
-  pub some-line : 4 ≤ numberOf (e .reason) → numberOf (e .reason) ≤ 8 → 0 < e .line
+  pub which : (e .reason ≡ TextTooLong) ⊎ (ofText (e .reason) ≡ true)
+  -- "The line is that of the fault for 4 to 8", and 15: one of the text's, of which there are as many as bytes 10
+  pub some-line : namesLine (e .reason) ≡ true → 0 < e .line
   pub last-line : e .line ≤ times 10 text
   -- "else 0"
-  pub line-before : numberOf (e .reason) ≤ 3 → e .line ≡ 0
-  pub line-after : numberOf (e .reason) ≡ 9 → e .line ≡ 0
+  pub no-line : namesLine (e .reason) ≡ false → e .line ≡ 0
   -- '"Tables 0" means the full sizes'
   pub left : u ≡ cleared lim t
   pub in-full-sizes : each take (fullSizes lim) u ≡ each (λ n xs. zeros n) (fullSizes lim) t
@@ -88,7 +88,7 @@ pub record Fresh (d : Draft) (l : Lit) : Type 0 where
   pub once : has (numbered d l (l .negated)) (d .line) ≡ false
   pub one-way : has (numbered d l (not (l .negated))) (d .line) ≡ false
 
--- a token that a reading cannot pass where it has read d: reasons 4 to 9, "given exactly when", with the line of the token
+-- a token that a reading cannot pass where it has read d: reasons 4 to 9 and 15, "given exactly when", with the line of the token
 pub data Fails (lim : Limits) (d : Draft) : Token → Fault → Type 0 where
   -- "a byte not allowed there"
   bad-byte : (n : ℕ) → Fails lim d (Bad n) (faultAt n ByteNotAllowed)
@@ -101,8 +101,18 @@ pub data Fails (lim : Limits) (d : Draft) : Token → Fault → Type 0 where
       → Fails lim d (Literal l) (faultAt (l .line) TooManyLiterals)
   -- "a kept line when 8,192 are held"
   clause-room : (n : ℕ) → 0 < length (d .line) → lim .clauses ≤ length (d .clauses) → Fails lim d (Line n) (faultAt n TooManyClauses)
+  -- "Lines of nothing or only spaces", "met at its end"
+  blank-line : (n : ℕ) → d .line ≡ [] → Fails lim d (Line n) (faultAt n BlankLine)
   -- "no clause kept"
   no-clause : (n : ℕ) → d .clauses ≡ [] → Fails lim d (End n) (fault NoClause)
+
+-- "nothing or only spaces" from a place on, up to the line's byte 10
+abbrev pub isSpace : ℕ → Bool
+isSpace b = eqb b 32
+
+pub record Bare (text : List ℕ) (at : ℕ) : Type 0 where
+  pub within : past isSpace text at < length text
+  pub ended : getD text (past isSpace text at) 0 ≡ 10
 
 -- "Reading stops at the first fault": the tests 1, 2 and 3 are passed, and the reading comes to a token that it cannot pass
 pub record Stopped (lim : Limits) (text : List ℕ) (t : Tables) (e : Fault) : Type 0 where
@@ -131,11 +141,11 @@ pub record Given (lim : Limits) (text : List ℕ) (t : Tables) : Type 0 where
   pub reason-2 : (reasonGiven lim text t ≡ 2) ↔ ((areFull lim t ≡ true) × (lim .text < length text))
   -- "text not empty and last byte not 10"
   pub reason-3 : (reasonGiven lim text t ≡ 3) ↔ ((areFull lim t ≡ true) × ((length text ≤ lim .text) × (openEnd text ≡ true)))
-  -- 4 to 9, each as `Fails` says it, with its line
-  pub from-left : (e : Fault) → 4 ≤ numberOf (e .reason) → (readingOf lim text t .answer ≡ R.Refused e) ↔ Stopped lim text t e
+  -- those that name a line, and 9, each as `Fails` says it
+  pub from-left : (e : Fault) → (namesLine (e .reason) ≡ true) ⊎ (e .reason ≡ NoClause) → (readingOf lim text t .answer ≡ R.Refused e) ↔ Stopped lim text t e
   -- "no clause kept"
   pub reason-9 : (reasonGiven lim text t ≡ 9) ↔ ((areFull lim t ≡ true) × (readText lim text ≡ refused (fault NoClause)))
-  -- no other than these and 4 to 8
-  pub to-9 : reasonGiven lim text t ≤ 9
+  -- no other than 1, 2 and the text's own
+  pub no-other : (e : Fault) → readingOf lim text t .answer ≡ R.Refused e → (e .reason ≡ TableTooShort) ⊎ ((e .reason ≡ TextTooLong) ⊎ (ofText (e .reason) ≡ true))
   -- none is given to a text that can be read
   pub no-reason : (reasonGiven lim text t ≡ 0) ↔ ((areFull lim t ≡ true) × ((f : File) × (readText lim text ≡ accepted f)))

@@ -20,7 +20,7 @@ use Rattle.written.specs.declared.Reason.the-variants.{TextTooLong}
 use Rattle.written.specs.declared.Fault.{Fault}
 use Rattle.written.specs.Lists.{below, has, placeOf, times, differ}
 use Rattle.written.specs.Limits.{Limits}
-use Rattle.written.specs.Reasons.{numberOf, fault}
+use Rattle.written.specs.Reasons.{fault}
 use Rattle.written.specs.Clauses.{literalOf, termOf, valueOf, trueCount}
 use Rattle.written.specs.Reading.{accepted, refused, readText}
 use Rattle.written.specs.Walk.{Outcome, walkOver}
@@ -31,6 +31,7 @@ use Rattle.written.specs.Printed.{decimal, line, answer, chosen, refusal}
 use Rattle.written.specs.Program.{unbegun, unread, walked, courseOf, printed, tablesAfter, Ran, reported}
 use Rattle.laws.specs.Valid.{Valid}
 use Rattle.laws.specs.Calls.{OneOfThree}
+use Rattle.laws.specs.Reasons.{namesLine, ofText, ofSheet}
 
 -- ---- what a run leaves: r, of tables and a buffer of their full sizes
 
@@ -91,27 +92,26 @@ pub data Refuses (lim : Limits) (input : List ℕ) : Fault → Type 0 where
 pub record Given (lim : Limits) (input : List ℕ) : Type 0 where
   pub exactly : (e : Fault) → (printed lim input ≡ refusal e) ↔ Refuses lim input e
   pub reason-2 : (printed lim input ≡ refusal (fault TextTooLong)) ↔ (lim .text < length input)
-  -- 3 to 9 are the text's own, as a reading gives them
-  pub of-text : (e : Fault) → 3 ≤ numberOf (e .reason) → numberOf (e .reason) ≤ 9
+  -- the text's own, as a reading gives them
+  pub of-text : (e : Fault) → ofText (e .reason) ≡ true
       → (printed lim input ≡ refusal e) ↔ ((s : Sheet) × Begun lim input s × (readText lim (textAfter s input) ≡ refused e))
-  -- 10 and 11 are the sheet's
-  pub of-sheet : (e : Fault) → 10 ≤ numberOf (e .reason) → (printed lim input ≡ refusal e) ↔ ((length input ≤ lim .text) × (sheetOf input ≡ O.Refused e))
+  -- the sheet's
+  pub of-sheet : (e : Fault) → ofSheet (e .reason) ≡ true → (printed lim input ≡ refusal e) ↔ ((length input ≤ lim .text) × (sheetOf input ≡ O.Refused e))
   -- no other is given: not 1, 12, 13 or 14
-  pub no-other : (e : Fault) → printed lim input ≡ refusal e → (2 ≤ numberOf (e .reason)) × (numberOf (e .reason) ≤ 11)
+  pub no-other : (e : Fault) → printed lim input ≡ refusal e → (e .reason ≡ TextTooLong) ⊎ ((ofText (e .reason) ≡ true) ⊎ (ofSheet (e .reason) ≡ true))
 
 -- the line of a refused run, and the tables u that it leaves where t stood
 pub record Refused (lim : Limits) (input : List ℕ) (t : Tables) (e : Fault) (u : Tables) : Type 0 where
   pub refuses : Refuses lim input e
-  -- "The line is that of the fault for 4 to 8 and 10", and "A sheet number out of range is reason 11 with its sheet line here"
-  pub text-line : 4 ≤ numberOf (e .reason) → numberOf (e .reason) ≤ 8 → 0 < e .line
-  pub sheet-line : 10 ≤ numberOf (e .reason) → (1 ≤ e .line) × (e .line ≤ 4)
+  -- "The line is that of the fault for 4 to 8 and 10", for 15 "with its line", and "A sheet number out of range is reason 11 with its sheet line here"
+  pub text-line : namesLine (e .reason) ≡ true → 0 < e .line
+  pub sheet-line : ofSheet (e .reason) ≡ true → (1 ≤ e .line) × (e .line ≤ 4)
   -- "else 0"
-  pub line-before : numberOf (e .reason) ≤ 3 → e .line ≡ 0
-  pub line-after : numberOf (e .reason) ≡ 9 → e .line ≡ 0
+  pub no-line : namesLine (e .reason) ≡ false → ofSheet (e .reason) ≡ false → e .line ≡ 0
   -- "tables 0"
-  pub emptied : numberOf (e .reason) ≤ 9 → u ≡ cleared lim t
+  pub emptied : ofSheet (e .reason) ≡ false → u ≡ cleared lim t
   -- "nothing begun", "all unchanged"
-  pub unchanged : 10 ≤ numberOf (e .reason) → u ≡ t
+  pub unchanged : ofSheet (e .reason) ≡ true → u ≡ t
 
 -- ---- walks
 

@@ -9,12 +9,13 @@ use lib.Dec.{eqb, leb}
 use Rattle.scan.specs.declared.Lit.{Lit}
 use Rattle.scan.specs.declared.Token.{Token}
 use Rattle.scan.specs.declared.Token.the-variants.{Literal, True, Line, End}
-use Rattle.written.specs.declared.Reason.the-variants.{TooManyClauses, NoClause}
+use Rattle.written.specs.declared.Reason.the-variants.{TooManyClauses, NoClause, BlankLine}
 use Rattle.written.specs.declared.Fault.{Fault}
 use Rattle.written.specs.Limits.{Limits}
 use Rattle.written.specs.Reasons.{fault, faultAt}
-use Rattle.written.specs.Reading.{Draft, goes, ends, stops, kept, dropped, atLineEnd, atTextEnd, atToken}
+use Rattle.written.specs.Reading.{Draft, ends, stops, kept, dropped, atLineEnd, atTextEnd, atToken}
 use Rattle.laws.proofs.Basics.{by-test}
+use Rattle.laws.proofs.Refusals.{line-none, line-full, line-room}
 use Rattle.reading_literal.specs.declared.Taken.{Taken}
 use Rattle.reading_literal.specs.Taking.{Took}
 use Rattle.reading_lines.specs.declared.Place.{Place}
@@ -28,9 +29,9 @@ use Rattle.reading_lines.proofs.Literals.{literal-turns}
 -- ---- a line's end in the code, by each way through its tests
 
 module _ (lim : Limits) (p : Place) (n : ℕ) (ss : List ℕ) where
-  pub nothing-held : p .held ≡ p .from → lineEnd (N.Goes p) ss ≡ afterLine lim p n ss
+  pub nothing-held : p .held ≡ p .from → {r : Next} → r ≡ N.Refused (faultAt n BlankLine) → lineEnd r ss ≡ afterLine lim p n ss
   unfolding afterLine
-  nothing-held e = rw (eq-eqb (p .held) (p .from) e) refl
+  nothing-held e told = ap (λ (r : Next). lineEnd r ss) told ∙ rw (eq-eqb (p .held) (p .from) e) refl
 
   module _ (some : p .held ≡ p .from → ⊥) where
     pub no-room : lim .clauses ≤ p .clauses → {r : Next} → r ≡ N.Refused (faultAt n TooManyClauses) → lineEnd r ss ≡ afterLine lim p n ss
@@ -41,24 +42,6 @@ module _ (lim : Limits) (p : Place) (n : ℕ) (ss : List ℕ) where
         → lineEnd (N.Goes (placeAt (p .terms) (p .clauses + 1) (p .held) (p .held))) (set ss (p .clauses + 1) (p .held)) ≡ afterLine lim p n ss
     unfolding afterLine
     line-closed room = rw (ne-eqb (p .held) (p .from) some, lt-leb (lim .clauses) (p .clauses) room) refl
-
--- ---- a line's end, by its literals
-
-module _ (lim : Limits) (d : Draft) (n : ℕ) where
-  line-skipped : (ls : List ℕ) → length ls ≡ 0 → atLineEnd lim d n ls ≡ goes d
-  unfolding atLineEnd
-  line-skipped [] e = refl
-  line-skipped (l ∷ ls) e = absurd (omega arith)
-
-  line-refused : (ls : List ℕ) → 0 < length ls → lim .clauses ≤ length (d .clauses) → atLineEnd lim d n ls ≡ stops (faultAt n TooManyClauses)
-  unfolding atLineEnd
-  line-refused [] e h = absurd (omega arith)
-  line-refused (l ∷ ls) e h = rw (le-leb (lim .clauses) (length (d .clauses)) h) refl
-
-  line-taken : (ls : List ℕ) → 0 < length ls → length (d .clauses) < lim .clauses → atLineEnd lim d n ls ≡ goes (kept d)
-  unfolding atLineEnd
-  line-taken [] e h = absurd (omega arith)
-  line-taken (l ∷ ls) e h = rw (lt-leb (lim .clauses) (length (d .clauses)) h) refl
 
 -- ---- the text's end, by its clauses
 
@@ -97,14 +80,14 @@ module _ (H : ℕ) (lim : Limits) (w : Desk) (p : Place) where
   line-turns n w₀ d h =
       let long = line-length H lim w₀ w p d h in
       by-test (Ends n w₀ d) (eqb (p .held) (p .from))
-      (λ none. record { draft = d; is = line-skipped lim d n (d .line) (omega (arith, eqb-true (p .held) (p .from) none)); drafted = h })
+      (λ none. (line-none lim d n (d .line) (omega (arith, eqb-true (p .held) (p .from) none)), h .beyond))
       (λ some.
       let more : 0 < length (d .line) = omega (arith, eqb-false (p .held) (p .from) some, h .ready .stamped .order) in
       by-test (Ends n w₀ d) (leb (lim .clauses) (p .clauses))
-      (λ full. (line-refused lim d n (d .line) more (omega (arith, leb-true (lim .clauses) (p .clauses) full, h .clauses-are)), h .beyond))
+      (λ full. (line-full lim d n (d .line) more (omega (arith, leb-true (lim .clauses) (p .clauses) full, h .clauses-are)), h .beyond))
       (λ room.
       let few : length (d .clauses) < lim .clauses = omega (arith, leb-false (lim .clauses) (p .clauses) room, h .clauses-are) in
-      record { draft = kept d; is = line-taken lim d n (d .line) more few; drafted = line-kept H lim w₀ w p d h few }))
+      record { draft = kept d; is = line-room lim d n (d .line) more few; drafted = line-kept H lim w₀ w p d h few }))
 
   pub line-by : (n : ℕ) (ss : List ℕ) {q : Next} → lineEnd q ss ≡ afterLine lim p n (w .starts) → TurnsBy H lim (Line n) w p (ended ss) q
   unfolding atToken

@@ -4,7 +4,7 @@ use mathlib.Core.Bool.{cond}
 use mathlib.Core.List.{List}
 use lib.ListN.{set}
 use lib.Dec.{eqb, leb}
-use Rattle.written.specs.declared.Reason.the-variants.{TooManyTerms, TooManyLiterals, TooManyClauses, NoClause}
+use Rattle.written.specs.declared.Reason.the-variants.{TooManyTerms, TooManyLiterals, TooManyClauses, NoClause, BlankLine}
 use Rattle.written.specs.Limits.{Limits}
 use Rattle.written.specs.Reasons.{fault, faultAt}
 use Rattle.reading_literal.specs.declared.Taken.{Taken}
@@ -43,7 +43,7 @@ lineEnd r ss = record { next = r; starts = ss }
 
 unfoldable pub afterLine : Limits → Place → ℕ → List ℕ → LineEnd
 afterLine lim p n ss =
-    cond (eqb (p .held) (p .from)) (lineEnd (N.Goes p) ss)
+    cond (eqb (p .held) (p .from)) (lineEnd (N.Refused (faultAt n BlankLine)) ss)
     (cond (leb (lim .clauses) (p .clauses)) (lineEnd (N.Refused (faultAt n TooManyClauses)) ss)
     (lineEnd (N.Goes (placeAt (p .terms) (p .clauses + 1) (p .held) (p .held))) (set ss (p .clauses + 1) (p .held))))
 

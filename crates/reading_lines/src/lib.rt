@@ -85,7 +85,7 @@ fn after_literal(t: Taken, p: Place, line: usize) -> Next
     }
 }
 
-// A line with literals is kept as a clause, if there is room for one.
+// A line with literals is kept as a clause, if there is room for one; a line without is refused.
 fn at_line_end(starts: &mut [u16], p: Place, line: usize) -> Next
     requires { ⌜ (line < 2 ^ 32) × (p .held < 2 ^ 16) × (narrow .clauses < length (now starts)) ⌝ }
     ensures { λ r. ⌜ lineEnd r (now (starts .exit)) ≡ afterLine narrow p line (now (starts .entry)) ⌝ }
@@ -93,7 +93,7 @@ fn at_line_end(starts: &mut [u16], p: Place, line: usize) -> Next
     let clauses = p.clauses;
     let held = p.held;
     if held == p.from {
-        return Next::Goes(p);
+        return refused(Reason::BlankLine, line);
     }
     if 8192 <= clauses {
         return refused(Reason::TooManyClauses, line);

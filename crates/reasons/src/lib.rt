@@ -21,5 +21,6 @@ pub fn number_of(reason: Reason) -> u32
         Reason::TablesDisagree => 12,
         Reason::UnknownTerm => 13,
         Reason::ListTooLong => 14,
+        Reason::BlankLine => 15,
     }
 }

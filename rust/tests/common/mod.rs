@@ -24,10 +24,10 @@ pub fn read(text: &str) -> Tables {
     tables
 }
 
-/// For each line of plain literals, how many of them are true. Comments and empty lines are left out.
+/// For each line of plain literals, how many of them are true. Comments are left out.
 pub fn true_literals(text: &str, values: &HashMap<String, bool>) -> Vec<u16> {
     let lines = text.lines();
-    let clauses = lines.filter(|line| !line.is_empty() && *line != "~" && !line.starts_with("~ "));
+    let clauses = lines.filter(|line| *line != "~" && !line.starts_with("~ "));
     let is_true = |literal: &&str| match literal.strip_prefix('~') {
         Some(name) => !values[name],
         None => values[*literal],

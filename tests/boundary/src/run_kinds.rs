@@ -1,6 +1,7 @@
 //! What kinds of input, of result and of answer a run was, to be counted.
 
 use oracle::generate::{input_of, InputKind, Random};
+use oracle::reasons::{OUT_OF_RANGE, SHEET_FORM};
 
 use crate::sides::Ran;
 use crate::{Runs, Tally, NARROW};
@@ -55,7 +56,7 @@ pub fn note_printed(printed: &[u8], met: &mut Tally<Met>) {
 fn note_refusal(printed: &[u8], met: &mut Tally<Met>) {
     let reason = number(printed, "reason=");
     met.note(Refused(reason));
-    if reason >= 10 {
+    if [SHEET_FORM, OUT_OF_RANGE].contains(&reason) {
         met.note(SheetLine(reason, number(printed, "line=")));
     }
 }

@@ -8,9 +8,9 @@ use oracle::generate::limit_texts::text_full_of_all;
 use oracle::generate::Random;
 use oracle::reasons::*;
 
-/// Lines of every form: kept, dropped in both ways, blank ones and comments, with repeats, runs of spaces, and names of one and eight bytes.
+/// Lines of every form: kept, dropped in both ways, and comments, with repeats, runs of spaces, and names of one and eight bytes.
 const FORMS: [&[u8]; 3] = [
-    b"a b ~c\n~a  bb\n ~ note\nc ~c x\n\nabcdefgh ~abcdefg\nd d a\n",
+    b"a b ~c\n~a  bb\n ~ note\nc ~c x\n~\nabcdefgh ~abcdefg\nd d a\n",
     b"~ x\n~! ~}\n ! ~ y\n} ~ABCDEFGH abcdefgh \n! !\n",
     b"one two\n~one three\n~two ~three one\n",
 ];
@@ -34,7 +34,8 @@ fn a_byte_changed_at_every_place() {
         BYTES.map(|byte| spliced(text, place, 1, &[byte])).into()
     });
     let met = reasons_of("a byte changed", &texts);
-    assert_eq!(met, [NONE, TEXT_CUT, BYTE_NOT_ALLOWED, NINTH_BYTE].into());
+    let reasons = [NONE, TEXT_CUT, BYTE_NOT_ALLOWED, NINTH_BYTE, BLANK_LINE];
+    assert_eq!(met, reasons.into());
 }
 
 #[test]
@@ -43,14 +44,16 @@ fn a_byte_put_in_at_every_place() {
         BYTES.map(|byte| spliced(text, place, 0, &[byte])).into()
     });
     let met = reasons_of("a byte put in", &texts);
-    assert_eq!(met, [NONE, BYTE_NOT_ALLOWED, NINTH_BYTE].into());
+    let reasons = [NONE, BYTE_NOT_ALLOWED, NINTH_BYTE, BLANK_LINE];
+    assert_eq!(met, reasons.into());
 }
 
 #[test]
 fn a_byte_taken_out_and_two_turned_round_at_every_place() {
     let texts = at_every_place(&FORMS, taken_out_and_turned_round);
     let met = reasons_of("a byte taken out, or two turned round", &texts);
-    assert_eq!(met, [NONE, TEXT_CUT, BYTE_NOT_ALLOWED, NINTH_BYTE].into());
+    let reasons = [NONE, TEXT_CUT, BYTE_NOT_ALLOWED, NINTH_BYTE, BLANK_LINE];
+    assert_eq!(met, reasons.into());
 }
 
 #[test]
@@ -60,7 +63,7 @@ fn texts_cut_at_every_place_and_closed_there() {
         vec![cut.to_vec(), then(cut, b"\n")]
     });
     let met = reasons_of("cut", &texts);
-    assert_eq!(met, [NONE, TEXT_CUT, NO_CLAUSE].into());
+    assert_eq!(met, [NONE, TEXT_CUT, NO_CLAUSE, BLANK_LINE].into());
 }
 
 #[test]
@@ -70,7 +73,8 @@ fn every_byte_at_every_place_of_short_texts() {
         bytes.map(|byte| spliced(text, place, 1, &[byte])).collect()
     });
     let met = reasons_of("every byte", &texts);
-    assert_eq!(met, [NONE, TEXT_CUT, BYTE_NOT_ALLOWED, NO_CLAUSE].into());
+    let reasons = [NONE, TEXT_CUT, BYTE_NOT_ALLOWED, NO_CLAUSE, BLANK_LINE];
+    assert_eq!(met, reasons.into());
 }
 
 #[test]
@@ -79,7 +83,8 @@ fn every_byte_after_a_name_of_eight() {
     for byte in 0..=255 {
         let text = [b"kept\nabcdefgh", &[byte][..], b"\n"].concat();
         match byte {
-            b'\n' | b' ' => assert_eq!(readings.accept(&text).clauses, 2),
+            b' ' => assert_eq!(readings.accept(&text).clauses, 2),
+            b'\n' => readings.refuse(&text, BLANK_LINE, 3),
             33..=125 => readings.refuse(&text, NINTH_BYTE, 2),
             _ => readings.refuse(&text, BYTE_NOT_ALLOWED, 2),
         }
@@ -92,7 +97,8 @@ fn every_byte_after_a_tilde() {
     for byte in 0..=255 {
         let text = [b"kept\n~", &[byte][..], b"\n"].concat();
         match byte {
-            b'\n' | b' ' => assert_eq!(readings.accept(&text).clauses, 1),
+            b' ' => assert_eq!(readings.accept(&text).clauses, 1),
+            b'\n' => readings.refuse(&text, BLANK_LINE, 3),
             33..=125 => assert_eq!(readings.accept(&text).clauses, 2),
             _ => readings.refuse(&text, BYTE_NOT_ALLOWED, 2),
         }

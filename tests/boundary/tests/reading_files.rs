@@ -4,7 +4,7 @@ use boundary::tally::share_out;
 use boundary::texts::texts_over;
 use boundary::{Readings, Tally, NARROW};
 use oracle::generate::*;
-use oracle::reasons::{BYTE_NOT_ALLOWED, NONE, NO_CLAUSE, TEXT_TOO_LONG};
+use oracle::reasons::{BLANK_LINE, BYTE_NOT_ALLOWED, NONE, NO_CLAUSE, TEXT_TOO_LONG};
 
 /// Texts of each kind far from the limits, and of each that meets one.
 const SMALL_TEXTS: u64 = 640;
@@ -37,7 +37,8 @@ fn twenty_thousand_texts_of_every_kind_are_read_as_the_independent_program_reads
     let met = share_out(SMALL_TEXTS, compare_files);
     assert!(met.total() >= 20_000, "{met:?}");
     met.expect([(NONE, 10_000)]);
-    met.expect((TEXT_TOO_LONG..=NO_CLAUSE).map(|reason| (reason, 100)));
+    let reasons = (TEXT_TOO_LONG..=NO_CLAUSE).chain([BLANK_LINE]);
+    met.expect(reasons.map(|reason| (reason, 100)));
 }
 
 #[test]
@@ -48,5 +49,5 @@ fn every_text_of_up_to_five_bytes_out_of_five_is_read_as_the_independent_program
         met.note(readings.read(&text).reason);
     }
     assert_eq!(met.total(), 3_906);
-    assert_eq!(met.kinds(), [NONE, BYTE_NOT_ALLOWED, NO_CLAUSE]);
+    assert_eq!(met.kinds(), [NONE, BYTE_NOT_ALLOWED, NO_CLAUSE, BLANK_LINE]);
 }

@@ -128,7 +128,7 @@ fn hard_texts() -> Vec<(&'static str, Vec<u8>)> {
     let in_names = |names: &[Word]| then_often(&unit_lines(names), b"! ! ~!\n");
     let at_one_home = names_at_home(&[HOMES - 1], NARROW.terms).concat();
     vec![
-        ("line ends", then_often(b"", b"\n")),
+        ("spaces", then_often(b"", b" ")),
         ("comments", then_often(b"", b"~\n")),
         ("one comment", then_often(b"a\n~ ", b"x")),
         ("dropped lines", then_often(b"", b"a ~a\n")),

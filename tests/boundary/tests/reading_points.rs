@@ -44,7 +44,6 @@ fn the_examples_of_the_document() {
             ("a a\n", counts(1, 1, 1, 1)),
             ("a ~a\nb\n", counts(2, 1, 1, 1)),
             ("abcdefgh\n", counts(1, 1, 1, 1)),
-            ("a\n\n", counts(1, 1, 1, 1)),
         ],
     );
     refuse_each(
@@ -55,7 +54,8 @@ fn the_examples_of_the_document() {
             ("abcdefghi\n", NINTH_BYTE, 1),
             ("a~b\n", BYTE_NOT_ALLOWED, 1),
             ("a", TEXT_CUT, 0),
-            ("\n", NO_CLAUSE, 0),
+            ("\n", BLANK_LINE, 1),
+            ("a\n\n", BLANK_LINE, 2),
             ("a ~ \t\n", NO_CLAUSE, 0),
             ("a ~\t\n", BYTE_NOT_ALLOWED, 1),
         ],
@@ -188,9 +188,10 @@ fn point_5_with_16_383_literals_held() {
 fn point_5_with_16_384_literals_held() {
     let make = |random: &mut Random| text_of_literals(NARROW.literals, &NARROW, random);
     try_full(make, |mut full| {
-        full.accepts(&["~ x\n", "~\n", "\n  \n"]);
-        full.refuses(&["! !\n", "! ~!\n", "~ x\n\n! ~\n"], TOO_MANY_LITERALS);
+        full.accepts(&["~ x\n", "~\n", "~\n  ~\n"]);
+        full.refuses(&["! !\n", "! ~!\n", "~ x\n~\n! ~\n"], TOO_MANY_LITERALS);
         full.refuses(&["newterm1 ~\n"], TOO_MANY_LITERALS);
+        full.refuses(&["\n", "~ x\n  \n"], BLANK_LINE);
     });
 }
 
@@ -219,17 +220,18 @@ fn point_6_reason_6_before_7_where_both_are_full() {
 fn point_6_reason_8_only_at_the_end_of_a_kept_line() {
     let make = |random: &mut Random| text_of_clauses(NARROW.clauses, &NARROW, random);
     try_full(make, |mut full| {
-        full.accepts(&["! ~!\n", "! newterm1 ~\n", "\n   \n~ !\n"]);
+        full.accepts(&["! ~!\n", "! newterm1 ~\n", "~\n   ~\n~ !\n"]);
         full.refuses(&["!\t\n"], BYTE_NOT_ALLOWED);
         full.refuses(&["! abcdefghi\n"], NINTH_BYTE);
-        full.refuses(&["!\n", "\n! ~!\n! newterm1  \n"], TOO_MANY_CLAUSES);
+        full.refuses(&["!\n", "~\n! ~!\n! newterm1  \n"], TOO_MANY_CLAUSES);
+        full.refuses(&["\n", "! ~!\n   \n"], BLANK_LINE);
     });
 }
 
 #[test]
 fn point_7_reason_9_after_terms_were_met_leaves_zeros() {
     let readings = &mut Readings::start("nothing kept");
-    for text in ["a ~a\n", "a ~\nb c ~ d\n", "~a b a \t\n\n~\n"] {
+    for text in ["a ~a\n", "a ~\nb c ~ d\n", "~a b a \t\n~ \n~\n"] {
         readings.refuse(text.as_bytes(), NO_CLAUSE, 0);
         assert_eq!(readings.sides.tables.names[..NARROW.terms], [0; 2_048]);
     }
@@ -257,4 +259,21 @@ fn point_9_starts_past_the_last_are_0_and_occurrences_rise() {
     begins(&tables.literals, &[0, 2, 2, 1, 2, 0]);
     begins(&tables.occurrence_starts, &[0, 1, 2, 5, 5, 0, 0]);
     begins(&tables.occurrences, &[0, 2, 0, 1, 2, 0]);
+}
+
+#[test]
+fn point_32_a_blank_line_is_met_at_its_end_and_a_dropped_line_is_none() {
+    let readings = &mut Readings::start("blank lines");
+    refuse_each(
+        readings,
+        &[
+            ("  \n", BLANK_LINE, 1),
+            ("a\n  \t\n", BYTE_NOT_ALLOWED, 2),
+            ("a\n\nb", TEXT_CUT, 0),
+            ("a ~a\n\n", BLANK_LINE, 2),
+            ("a\nb ~ \t\n \nabcdefghi\n", BLANK_LINE, 3),
+        ],
+    );
+    let dropped = "~\n~ \n  ~\nb ~b \n~b b  \na\n";
+    accept_each(readings, &[(dropped, counts(2, 1, 1, 1))]);
 }

@@ -22,6 +22,7 @@ fn a_text_for_each_reason() -> Vec<(u64, Vec<u8>)> {
         (TOO_MANY_CLAUSES, of(TextKind::ClausesPastLimit)),
         (NO_CLAUSE, b"a ~a\n".to_vec()),
         (NO_CLAUSE, Vec::new()),
+        (BLANK_LINE, b"a b\n  \nb\n".to_vec()),
     ]
 }
 

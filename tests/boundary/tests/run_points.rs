@@ -62,7 +62,6 @@ fn the_other_examples_of_the_document() {
     runs.prints(&after_sheet("a ~a\nb\n"), FOUND_BY_ONE_FLIP);
     let no_flip = |answer: &str| format!("result=found\nwalks=1\nflips=0\nchosen=1\n{answer}\n");
     runs.prints(&after_sheet("a a\n"), &no_flip("answer=a"));
-    runs.prints(&after_sheet("a\n\n"), &no_flip("answer=a"));
     runs.prints(&after_sheet("abcdefgh\n"), &no_flip("answer=abcdefgh"));
     let covering = b"seed=1\nflips=0\nwalks=1\nbias=400\na\n~b\n";
     runs.prints(covering, &no_flip("answer=a ~b"));
@@ -75,7 +74,8 @@ fn the_refusals_of_the_document() {
     for (text, reason, line) in [
         ("", NO_CLAUSE, 0),
         ("~ note\n", NO_CLAUSE, 0),
-        ("\n", NO_CLAUSE, 0),
+        ("\n", BLANK_LINE, 1),
+        ("a\n\n", BLANK_LINE, 2),
         ("a ~ \t\n", NO_CLAUSE, 0),
         ("abcdefghi\n", NINTH_BYTE, 1),
         ("a~b\n", BYTE_NOT_ALLOWED, 1),
@@ -271,8 +271,8 @@ fn point_29_reason_2_is_tested_on_the_whole_input_first() {
 #[test]
 fn point_29_inputs_of_65_536_bytes_are_walked_on_and_of_65_537_are_reason_2() {
     let mut runs = Runs::start();
-    let input = after_sheet("a b\n~a b\n");
-    for (filler, more) in [(b' ', 0), (b'\n', 0), (b'\n', 1), (b' ', 34), (b'\n', 100)] {
+    let input = after_sheet("a b\n~a b\n~");
+    for (filler, more) in [(b' ', 0), (b'~', 1), (b'\n', 1), (b' ', 34), (b'\n', 100)] {
         let mut long = input.clone();
         long.resize(NARROW.text + more - 1, filler);
         long.push(b'\n');
@@ -304,9 +304,14 @@ fn point_30_the_result_line_decides() {
 #[test]
 fn lines_count_again_from_1_in_the_clause_text() {
     let mut runs = Runs::start();
-    for before in [0, 1, 2, 3, 4, 5, 9, 254, 255, 256, 65_493] {
-        for (line, reason) in [("abcdefghi\n", NINTH_BYTE), ("\t\n", BYTE_NOT_ALLOWED)] {
-            let input = after_sheet(&("\n".repeat(before) + line));
+    let faulty = [
+        ("abcdefghi\n", NINTH_BYTE),
+        ("\t\n", BYTE_NOT_ALLOWED),
+        (" \n", BLANK_LINE),
+    ];
+    for before in [0, 1, 2, 3, 4, 5, 9, 254, 255, 256, 32_746] {
+        for (line, reason) in faulty {
+            let input = after_sheet(&("~\n".repeat(before) + line));
             runs.refuses(&input, reason, before as u64 + 1);
         }
     }

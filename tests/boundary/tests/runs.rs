@@ -5,11 +5,11 @@ use boundary::tally::share_out;
 use boundary::texts::texts_over;
 use boundary::{Runs, Tally, ORDER};
 use oracle::generate::{good_sheet, InputKind};
-use oracle::reasons::{OUT_OF_RANGE, SHEET_FORM, TEXT_TOO_LONG};
+use oracle::reasons::{BLANK_LINE, OUT_OF_RANGE, SHEET_FORM, TEXT_TOO_LONG};
 use oracle::Order;
 
 /// The most inputs of one kind.
-const MOST: u64 = 2_000;
+const MOST: u64 = 2_600;
 
 fn inputs_of(kind: InputKind) -> u64 {
     match kind {
@@ -41,7 +41,8 @@ fn ten_thousand_inputs_of_every_kind_are_run_as_the_independent_program_runs_the
     assert!(inputs.iter().sum::<u64>() >= 10_000, "{met:?}");
     met.expect(InputKind::ALL.map(|kind| (Input(kind), inputs_of(kind))));
     met.expect([Found, GaveUp].map(|result| (result, 1_500)));
-    met.expect((TEXT_TOO_LONG..=OUT_OF_RANGE).map(|reason| (Refused(reason), 10)));
+    let reasons = (TEXT_TOO_LONG..=OUT_OF_RANGE).chain([BLANK_LINE]);
+    met.expect(reasons.map(|reason| (Refused(reason), 10)));
     met.expect((1..=4).map(|line| (SheetLine(SHEET_FORM, line), 500)));
     met.expect((1..=4).map(|line| (SheetLine(OUT_OF_RANGE, line), 20)));
     met.expect([(NoneChosen, 5), (SomeChosen, 1_000)]);
@@ -61,10 +62,11 @@ fn every_text_of_up_to_four_bytes_out_of_five_is_run_as_the_independent_program_
         note_printed(&runs.run(&[sheet, text].concat()), &mut met);
     }
     met.expect([
-        (Found, 400),
+        (Found, 200),
         (GaveUp, 4),
-        (Refused(4), 200),
-        (Refused(9), 100),
+        (Refused(4), 150),
+        (Refused(9), 50),
+        (Refused(BLANK_LINE), 300),
     ]);
-    met.expect([(OneTerm, 100), (NoneChosen, 50), (SomeChosen, 100)]);
+    met.expect([(OneTerm, 100), (NoneChosen, 30), (SomeChosen, 100)]);
 }

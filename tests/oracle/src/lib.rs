@@ -1,4 +1,4 @@
-//! An independent WALKSAT, written from the words of document 01: clear rather than fast.
+//! An independent WALKSAT, written from the words of the documents: clear rather than fast.
 //! Every count is worked out afresh from the clauses and values; none is carried along.
 
 pub mod agree;
@@ -15,6 +15,7 @@ pub mod report;
 pub mod sheet;
 pub mod state;
 pub mod tables;
+pub mod vectors;
 pub mod walk;
 
 pub use limits::Limits;

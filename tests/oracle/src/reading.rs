@@ -5,7 +5,7 @@ use std::collections::HashMap;
 use crate::limits::Limits;
 use crate::reader::{Item, Reader, Told, LINE_FEED};
 use crate::reasons::{
-    Fault, NONE, NO_CLAUSE, TABLE_TOO_SHORT, TEXT_CUT, TEXT_TOO_LONG, TOO_MANY_CLAUSES,
+    Fault, BLANK_LINE, NONE, NO_CLAUSE, TABLE_TOO_SHORT, TEXT_CUT, TEXT_TOO_LONG, TOO_MANY_CLAUSES,
     TOO_MANY_LITERALS, TOO_MANY_TERMS,
 };
 use crate::state::{opposite, State};
@@ -93,6 +93,8 @@ struct Clauses<'a> {
     kept_literals: usize,
     /// The literals of the line that is being read.
     open: Vec<usize>,
+    /// Whether that line is dropped; its end then tells of no blank line.
+    dropped: bool,
 }
 
 impl<'a> Clauses<'a> {
@@ -104,6 +106,7 @@ impl<'a> Clauses<'a> {
             kept: Vec::new(),
             kept_literals: 0,
             open: Vec::new(),
+            dropped: false,
         }
     }
 
@@ -140,18 +143,22 @@ impl<'a> Clauses<'a> {
         Ok(self.names.len() - 1)
     }
 
-    /// "A dropped line gives back its literals. The terms it had introduced stay known"; with
-    /// nothing open and the rest passed, its end then looks like that of a blank line.
+    /// "A dropped line gives back its literals. The terms it had introduced stay known".
     fn drop_line(&mut self, reader: &mut Reader) -> Result<(), u64> {
         self.open.clear();
+        self.dropped = true;
         reader.pass();
         Ok(())
     }
 
-    /// "Room for a clause (8) is tested at the line's end, only for a line that is kept."
+    /// "Room for a clause (8) is tested at the line's end, only for a line that is kept." Request 2:
+    /// "Lines of nothing or only spaces are to be refused", at their end too.
     fn end_line(&mut self) -> Result<(), u64> {
-        if self.open.is_empty() {
+        if std::mem::take(&mut self.dropped) {
             return Ok(());
+        }
+        if self.open.is_empty() {
+            return Err(BLANK_LINE);
         }
         if self.kept.len() == self.limits.clauses {
             return Err(TOO_MANY_CLAUSES);

@@ -1,4 +1,4 @@
-//! The numbers of document 01's table "Reasons and what they leave".
+//! The numbers of document 01's table "Reasons and what they leave", and those that document 02 adds.
 
 pub const NONE: u64 = 0;
 pub const TABLE_TOO_SHORT: u64 = 1;
@@ -15,6 +15,7 @@ pub const OUT_OF_RANGE: u64 = 11;
 pub const TABLES_DISAGREE: u64 = 12;
 pub const UNKNOWN_TERM: u64 = 13;
 pub const LIST_TOO_LONG: u64 = 14;
+pub const BLANK_LINE: u64 = 15;
 
 /// A refusal: its reason, and the line of the fault or 0.
 #[derive(Clone, Copy, Debug, PartialEq, Eq)]
@@ -24,7 +25,7 @@ pub struct Fault {
 }
 
 impl Fault {
-    /// A fault that has no line: "The line is that of the fault for 4 to 8 and 10, else 0."
+    /// A fault that has no line: "The line is that of the fault for 4 to 8 and 10, else 0"; 15 has one.
     pub fn without_line(reason: u64) -> Fault {
         Fault { reason, line: 0 }
     }

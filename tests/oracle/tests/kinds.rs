@@ -10,7 +10,7 @@ use oracle::flips::flip;
 use oracle::generate::*;
 use oracle::reader::is_name_byte;
 use oracle::reasons::{
-    NO_CLAUSE, TEXT_TOO_LONG, TOO_MANY_CLAUSES, TOO_MANY_LITERALS, TOO_MANY_TERMS,
+    BLANK_LINE, NO_CLAUSE, TEXT_TOO_LONG, TOO_MANY_CLAUSES, TOO_MANY_LITERALS, TOO_MANY_TERMS,
 };
 use oracle::sheet::read_sheet;
 
@@ -75,6 +75,11 @@ fn texts_with_nothing_to_keep_are_refused_for_it() {
     }
 }
 
+#[test]
+fn texts_with_a_blank_line_are_refused_for_it() {
+    assert_eq!(reasons_of(TextKind::BlankLines, 60), [BLANK_LINE].into());
+}
+
 /// Texts of each kind meet each of its reasons.
 fn assert_meet(expected: &[(TextKind, &[u64])], cases: u64) {
     for (kind, reasons) in expected {
@@ -87,12 +92,12 @@ fn assert_meet(expected: &[(TextKind, &[u64])], cases: u64) {
 #[test]
 fn lines_after_a_full_limit_are_accepted_or_refused_in_every_way() {
     let expected: [(TextKind, &[u64]); 6] = [
-        (TextKind::TermsFullThenMore, &[0, 4, 5, 6]),
-        (TextKind::ClausesFullThenMore, &[0, 4, 5, 8]),
-        (TextKind::LiteralsFullThenMore, &[0, 4, 5, 7]),
-        (TextKind::LiteralsNearlyFullThenMore, &[0, 4, 5, 7]),
-        (TextKind::TermsAndLiteralsFullThenMore, &[0, 4, 5, 6, 7]),
-        (TextKind::AllFullThenMore, &[0, 4, 5, 6, 7]),
+        (TextKind::TermsFullThenMore, &[0, 4, 5, 6, 15]),
+        (TextKind::ClausesFullThenMore, &[0, 4, 5, 8, 15]),
+        (TextKind::LiteralsFullThenMore, &[0, 4, 5, 7, 15]),
+        (TextKind::LiteralsNearlyFullThenMore, &[0, 4, 5, 7, 15]),
+        (TextKind::TermsAndLiteralsFullThenMore, &[0, 4, 5, 6, 7, 15]),
+        (TextKind::AllFullThenMore, &[0, 4, 5, 6, 7, 15]),
     ];
     assert_meet(&expected, 60);
 }
@@ -101,13 +106,13 @@ fn lines_after_a_full_limit_are_accepted_or_refused_in_every_way() {
 fn faulty_texts_meet_their_faults() {
     let expected: [(TextKind, &[u64]); 9] = [
         (TextKind::ChangedBytes, &[0, 3, 4, 5]),
-        (TextKind::InsertedByte, &[0, 4, 5]),
+        (TextKind::InsertedByte, &[0, 4, 5, 15]),
         (TextKind::RemovedByte, &[0, 3]),
         (TextKind::Cut, &[3]),
         (TextKind::LongName, &[5]),
         (TextKind::WrongByteAfterName, &[4]),
         (TextKind::WrongByteAfterTilde, &[4]),
-        (TextKind::FewLetters, &[0, 3, 4, 9]),
+        (TextKind::FewLetters, &[0, 3, 4, 9, 15]),
         (TextKind::AnyBytes, &[3, 4]),
     ];
     assert_meet(&expected, 300);
@@ -160,16 +165,19 @@ fn each_kind_of_input_does_what_it_says() {
     for kind in InputKind::ALL {
         let (only, some): (&[u64], &[u64]) = match kind {
             InputKind::ToWalk | InputKind::BytesAtLimit => (&[0], &[0]),
-            InputKind::FewLetters => (&[0, 3, 4, 5, 9], &[0, 3, 4, 9]),
-            InputKind::AnyText => (&[0, 2, 3, 4, 5, 6, 7, 8, 9], &[0, 3, 4, 5]),
+            InputKind::FewLetters => (&[0, 3, 4, 5, 9, 15], &[0, 3, 4, 9, 15]),
+            InputKind::AnyText => (&[0, 2, 3, 4, 5, 6, 7, 8, 9, 15], &[0, 3, 4, 5, 15]),
             InputKind::AnySheet => (&[0, 3, 4, 5, 9, 10, 11], &[0, 10, 11]),
-            InputKind::AnySheetAnyText => (&[0, 2, 3, 4, 5, 6, 7, 8, 9, 10, 11], &[0, 4, 10, 11]),
-            InputKind::SheetAfterSheet => (&[0, 4, 5], &[0, 4, 5]),
+            InputKind::AnySheetAnyText => (
+                &[0, 2, 3, 4, 5, 6, 7, 8, 9, 10, 11, 15],
+                &[0, 4, 10, 11, 15],
+            ),
+            InputKind::SheetAfterSheet => (&[0, 4, 5, 15], &[0, 4, 5]),
             InputKind::BytesPastLimit => (&[2], &[2]),
-            InputKind::ChangedBytes => (&[0, 3, 4, 5, 10, 11], &[0, 4, 10]),
-            InputKind::InsertedByte => (&[0, 3, 4, 5, 10, 11], &[0, 4, 10]),
-            InputKind::RemovedByte => (&[0, 3, 4, 5, 10, 11], &[0, 3, 10]),
-            InputKind::DoubledBytes => (&[0, 3, 4, 5, 10, 11], &[0, 5, 10, 11]),
+            InputKind::ChangedBytes => (&[0, 3, 4, 5, 10, 11, 15], &[0, 4, 10]),
+            InputKind::InsertedByte => (&[0, 3, 4, 5, 10, 11, 15], &[0, 4, 10]),
+            InputKind::RemovedByte => (&[0, 3, 4, 5, 10, 11, 15], &[0, 3, 10]),
+            InputKind::DoubledBytes => (&[0, 3, 4, 5, 10, 11, 15], &[0, 5, 10, 11]),
             InputKind::Cut => (&[0, 3, 9, 10], &[3, 10]),
             InputKind::AnyBytes | InputKind::Empty => (&[10], &[10]),
         };

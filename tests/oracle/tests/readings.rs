@@ -126,7 +126,8 @@ fn point_06_6_before_7_and_8_only_at_the_end_of_a_kept_line() {
     let line = NARROW.clauses as u64 + 1;
     assert_refused(clauses.clone() + "!\t\n", 4, line);
     accepted(clauses.clone() + "! ~!\n");
-    assert_refused(clauses + "\n!\n", 8, line + 1);
+    assert_refused(clauses.clone() + "~\n!\n", 8, line + 1);
+    assert_refused(clauses + "\n!\n", 15, line);
 }
 
 #[test]
@@ -517,4 +518,17 @@ fn point_31_a_short_table_and_a_short_output_are_reason_1() {
     let (numbers, (_, out)) = run_over(lent_to_a_run());
     assert_eq!(numbers, [1, 0, report.len() as u64]);
     assert!(out.starts_with(report.as_bytes()));
+}
+
+#[test]
+fn point_32_a_blank_line_is_met_at_its_end_and_a_dropped_line_is_none() {
+    assert_refused("  \t\n", 4, 1);
+    assert_refused("a\n  ", 3, 0);
+    assert_refused(
+        text_of_clauses(NARROW.clauses) + "  \n",
+        15,
+        NARROW.clauses as u64 + 1,
+    );
+    accepted("~\n~ \na ~a \nb ~\na\n");
+    assert_refused("", 9, 0);
 }

@@ -1,4 +1,4 @@
-//! Sentences of document 01 that neither its examples nor the open points of the readings try.
+//! Sentences of the documents that neither document 01's examples nor the open points of the readings try.
 
 mod common;
 
@@ -6,12 +6,13 @@ use common::*;
 use oracle::flips::flip;
 
 #[test]
-fn a_line_of_spaces_only_is_skipped() {
-    for spaces in [1, 2, 100].map(|count| " ".repeat(count)) {
-        assert_refused(format!("{spaces}\n"), 9, 0);
-        let (counts, tables) = accepted(format!("{spaces}\na\n{spaces}\nb\n{spaces}\n"));
-        assert_eq!((counts.terms, counts.clauses, counts.literals), (2, 2, 2));
-        assert_eq!(tables.starts[..4], [0, 1, 2, 0]);
+fn a_line_of_nothing_or_only_spaces_is_refused() {
+    for spaces in [0, 1, 2, 100].map(|count| " ".repeat(count)) {
+        assert_refused(format!("{spaces}\n"), 15, 1);
+        assert_refused(format!("{spaces}\na\n{spaces}\n"), 15, 1);
+        assert_refused(format!("a\n{spaces}\nb\n"), 15, 2);
+        assert_refused(format!("a\n~\nb\n{spaces}\n"), 15, 4);
+        accepted(format!("{spaces}a{spaces}\n{spaces}~{spaces}\n"));
     }
 }
 
@@ -21,7 +22,7 @@ fn the_first_of_two_faults_is_told() {
     for (first, reason) in faults {
         for (second, _) in faults {
             assert_refused(format!("a\n{first} {second}\n"), reason, 2);
-            assert_refused(format!("a\n\n{first}\n{second}\n"), reason, 3);
+            assert_refused(format!("a\n~\n{first}\n{second}\n"), reason, 3);
         }
         let past_limit = text_of_clauses(NARROW.clauses + 1);
         assert_refused(format!("{first}\n{past_limit}"), reason, 1);

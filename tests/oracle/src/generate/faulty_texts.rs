@@ -1,5 +1,6 @@
 //! Clause texts with a fault in them, or likely to have one.
 
+use super::lines::blank;
 use super::names::name_of_length;
 use super::random::Random;
 use super::valid_texts::valid_text;
@@ -70,6 +71,24 @@ pub fn removed_byte(random: &mut Random) -> Vec<u8> {
     damaged(remove_byte, random)
 }
 
+/// Blank lines between the others, one to three.
+pub fn blank_lines(random: &mut Random) -> Vec<u8> {
+    let mut text = valid_text(random);
+    for _ in 0..random.between(1, 3) {
+        let mut line = blank(random).concat();
+        line.push(b'\n');
+        let place = random.pick(&line_starts(&text));
+        text.splice(place..place, line);
+    }
+    text
+}
+
+/// Where a line begins, or may be put at the end.
+fn line_starts(text: &[u8]) -> Vec<usize> {
+    let after = |place: &usize| *place == 0 || text[place - 1] == b'\n';
+    (0..=text.len()).filter(after).collect()
+}
+
 /// Cut anywhere, mostly inside a line.
 pub fn cut(random: &mut Random) -> Vec<u8> {
     damaged(
@@ -102,20 +121,13 @@ pub fn wrong_byte_after_tilde(random: &mut Random) -> Vec<u8> {
 /// Puts the bytes and a space at the beginning of some line.
 fn put_at_a_line(mut bytes: Vec<u8>, random: &mut Random) -> Vec<u8> {
     let mut text = valid_text(random);
-    let starts: Vec<usize> = (1..text.len())
-        .filter(|start| text[start - 1] == b'\n')
-        .collect();
-    let place = if starts.is_empty() {
-        0
-    } else {
-        random.pick(&starts)
-    };
+    let place = random.pick(&line_starts(&text[..text.len() - 1]));
     bytes.push(b' ');
     text.splice(place..place, bytes);
     text
 }
 
-/// Bytes of a few kinds, so that every short form of a line is met.
+/// Bytes of a few kinds, so that every short form of a line is met; blank lines in half of the texts only, since these end a reading.
 pub fn few_letters(random: &mut Random) -> Vec<u8> {
     let letters: &[u8] = if random.coin() {
         b"ab~ \n"
@@ -127,7 +139,18 @@ pub fn few_letters(random: &mut Random) -> Vec<u8> {
     if !random.one_in(4) {
         text.push(b'\n');
     }
+    if random.coin() {
+        let lines = text.split_inclusive(|byte| *byte == b'\n');
+        text = lines
+            .filter(|line| !is_blank(line))
+            .collect::<Vec<_>>()
+            .concat();
+    }
     text
+}
+
+fn is_blank(line: &[u8]) -> bool {
+    line.iter().all(|byte| matches!(byte, b' ' | b'\n'))
 }
 
 pub fn any_bytes(random: &mut Random) -> Vec<u8> {

@@ -73,14 +73,12 @@ pub fn text_of_bytes(bytes: usize, random: &mut Random) -> Vec<u8> {
     if text.len() > bytes {
         text = b"a\n".to_vec();
     }
-    if random.coin() {
-        pad_at_the_end(&mut text, bytes, random);
-        return text;
+    let padding = padding(bytes.saturating_sub(text.len()), random);
+    if padding.ends_with(b"\n") && random.coin() {
+        [text, padding].concat()
+    } else {
+        [padding, text].concat()
     }
-    let mut padded = Vec::new();
-    pad_at_the_end(&mut padded, bytes.saturating_sub(text.len()), random);
-    padded.extend(text);
-    padded
 }
 
 /// One to three lines where a limit is met or nearly met.
@@ -171,20 +169,18 @@ impl Filler<'_> {
     }
 }
 
-/// Fills up to the size with one comment, one line of spaces, or nothing but line ends.
-fn pad_at_the_end(text: &mut Vec<u8>, size: usize, random: &mut Random) {
-    let missing = size.saturating_sub(text.len());
-    if missing == 0 {
-        return;
+/// So many bytes that change nothing: one comment, one `~` with spaces, or lines of `~` alone. A single byte is a space, for a line's beginning.
+fn padding(bytes: usize, random: &mut Random) -> Vec<u8> {
+    if bytes < 2 {
+        return vec![b' '; bytes];
     }
-    let filler = random.pick(b"x \n");
-    let mut padding = vec![filler; missing];
-    if filler == b'x' {
-        padding[0] = if missing == 1 { b'\n' } else { b'~' };
-        if missing > 2 {
-            padding[1] = b' ';
-        }
+    if random.one_in(3) {
+        let mut lines = b"~\n".repeat(bytes / 2);
+        lines.splice(1..1, vec![b' '; bytes % 2]);
+        return lines;
     }
-    padding[missing - 1] = b'\n';
-    text.extend(padding);
+    let mut line = b"~ "[..(bytes - 1).min(2)].to_vec();
+    line.resize(bytes - 1, random.pick(b"x "));
+    line.push(b'\n');
+    line
 }

@@ -2,7 +2,7 @@
 
 use super::faulty_texts as faulty;
 use super::limit_texts as limit;
-use super::lines::{add_opposites, blank, comment, lone_tilde, random_lines, write, Line};
+use super::lines::{add_opposites, comment, lone_tilde, random_lines, write, Line};
 use super::names::{distinct_names, NameStyle};
 use super::random::Random;
 use super::valid_texts::{valid_text_of, ValidKind};
@@ -14,8 +14,10 @@ kinds! {
         /// The kinds beside the valid ones that are far from the limits.
         FAULTY {
             Empty,
-            /// Comments, blank lines and dropped lines only: reason 9.
+            /// Comments and dropped lines only: reason 9.
             NothingKept,
+            /// A valid text but for lines of nothing or only spaces: reason 15.
+            BlankLines,
             ChangedBytes,
             InsertedByte,
             RemovedByte,
@@ -66,6 +68,7 @@ pub fn clause_text_of(kind: TextKind, limits: &Limits, random: &mut Random) -> V
         TextKind::Valid(kind) => valid_text_of(kind, random),
         TextKind::Empty => Vec::new(),
         TextKind::NothingKept => nothing_kept(random),
+        TextKind::BlankLines => faulty::blank_lines(random),
         TextKind::ChangedBytes => faulty::changed_bytes(random),
         TextKind::InsertedByte => faulty::inserted_byte(random),
         TextKind::RemovedByte => faulty::removed_byte(random),
@@ -111,10 +114,9 @@ fn text_full_then_more(kind: TextKind, limits: &Limits, random: &mut Random) -> 
 }
 
 fn nothing_kept(random: &mut Random) -> Vec<u8> {
-    let line = |random: &mut Random| match random.below(4) {
+    let line = |random: &mut Random| match random.below(3) {
         0 => comment(random),
         1 => lone_tilde(random),
-        2 => blank(random),
         _ => dropped_by_opposites(random),
     };
     let count = random.between(1, 12);

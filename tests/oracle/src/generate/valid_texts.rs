@@ -1,8 +1,8 @@
 //! Clause texts that a reading accepts, of many shapes, far from the limits.
 
 use super::lines::{
-    add_opposites, add_trues, blank, comment, insert_lines, lone_tilde, random_lines,
-    repeat_literals, signed, write, write_with_runs, Line, Word,
+    add_opposites, add_trues, comment, insert_lines, lone_tilde, random_lines, repeat_literals,
+    signed, write, write_with_runs, Line, Word,
 };
 use super::names::{distinct_names, NameStyle};
 use super::random::Random;
@@ -31,7 +31,6 @@ kinds! {
         TermsOnlyDropped,
         Comments,
         LoneTildes,
-        BlankLines,
         SpaceRuns,
         AnyNames,
         StrangeNames,
@@ -210,7 +209,6 @@ fn decorated(kind: ValidKind, mut lines: Vec<Line>, random: &mut Random) -> Vec<
         ValidKind::TrueInLines => add_trues(&mut lines, random),
         ValidKind::Comments => insert_lines(&mut lines, random, comment),
         ValidKind::LoneTildes => insert_lines(&mut lines, random, lone_tilde),
-        ValidKind::BlankLines => insert_lines(&mut lines, random, blank),
         _ => {}
     }
     lines
@@ -218,13 +216,12 @@ fn decorated(kind: ValidKind, mut lines: Vec<Line>, random: &mut Random) -> Vec<
 
 /// Everything that lines can suffer, in an order that keeps "true" after the literals.
 fn mixed(random: &mut Random) -> Vec<Line> {
-    const DECORATIONS: [ValidKind; 6] = [
+    const DECORATIONS: [ValidKind; 5] = [
         ValidKind::RepeatedLiterals,
         ValidKind::OppositeLiterals,
         ValidKind::TrueInLines,
         ValidKind::Comments,
         ValidKind::LoneTildes,
-        ValidKind::BlankLines,
     ];
     let mut lines = planted(random);
     for kind in DECORATIONS {
