@@ -51,7 +51,13 @@ static uint32_t term_of(struct reader *r, uint64_t name)
     return t->terms - 1;
 }
 
-/* Gives back the open line's literals, and passes on to the line's end. */
+static void next_line(struct reader *r)
+{
+    r->at++;
+    r->line++;
+}
+
+/* Gives back the open line's literals, and passes on to the next line. */
 static uint32_t drop_line(struct reader *r)
 {
     struct tables *t = r->t;
@@ -59,6 +65,7 @@ static uint32_t drop_line(struct reader *r)
         t->literals[--t->literal_count] = 0;
     while (*r->at != LINE_FEED)
         r->at++;
+    next_line(r);
     return NGI_NO_REASON;
 }
 
@@ -89,17 +96,16 @@ static uint32_t read_literal(struct reader *r)
     return term == NGI_TERMS ? NGI_TOO_MANY_TERMS : take_literal(r, 2 * term + negated);
 }
 
-/* A line that holds no literal, a dropped one too, is no clause. */
+/* A line that was not dropped: one without a literal is blank. */
 static uint32_t end_line(struct reader *r)
 {
     struct tables *t = r->t;
-    if (t->literal_count > t->starts[t->clauses]) {
-        if (t->clauses == NGI_CLAUSES)
-            return NGI_TOO_MANY_CLAUSES;
-        t->starts[++t->clauses] = (uint16_t)t->literal_count;
-    }
-    r->at++;
-    r->line++;
+    if (t->literal_count == t->starts[t->clauses])
+        return NGI_BLANK_LINE;
+    if (t->clauses == NGI_CLAUSES)
+        return NGI_TOO_MANY_CLAUSES;
+    t->starts[++t->clauses] = (uint16_t)t->literal_count;
+    next_line(r);
     return NGI_NO_REASON;
 }
 
