@@ -12,7 +12,7 @@ from pathlib import Path
 
 ROOT = Path(__file__).resolve().parent.parent
 SPECS = Path("crates/written/specs")
-TABLES = {"Examples", "Traps", "Calls"}
+TABLES = {"Examples", "Traps", "Calls", "Runs"}
 
 # file: (what stands there, what is put there)
 EDITS = {
