@@ -84,8 +84,8 @@ follows p q h r e = sym (ap (λ (b : Bool). not b || q r) e) ∙ every-reason (�
 pub line-of-text : (r : Reason) → namesLine r ≡ true → ofText r ≡ true
 line-of-text r h = follows namesLine ofText refl r h
 
--- and no other call's before it, nor 9
-pub line-late : (r : Reason) → namesLine r ≡ true → 4 ≤ numberOf r
+-- and none of 1, 2 and 3, nor 9
+line-late : (r : Reason) → namesLine r ≡ true → 4 ≤ numberOf r
 line-late r h = ltb-true 3 (numberOf r) (follows namesLine (λ r. ltb 3 (numberOf r)) refl r h)
 
 pub line-not-last : (r : Reason) → namesLine r ≡ true → numberOf r ≡ 9 → ⊥
@@ -99,6 +99,3 @@ late-number r (inr h) = omega (arith, ap numberOf h)
 -- what is the text's own is not the sheet's
 pub text-not-sheet : (r : Reason) → ofText r ≡ true → ofSheet r ≡ false
 text-not-sheet r h = not-true _ (follows ofText (λ r. not (ofSheet r)) refl r h)
-
-pub line-not-sheet : (r : Reason) → ofSheet r ≡ true → namesLine r ≡ false
-line-not-sheet r h = not-true _ (follows ofSheet (λ r. not (namesLine r)) refl r h)
