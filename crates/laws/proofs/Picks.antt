@@ -1,29 +1,24 @@
--- What is picked stands in the list that it is picked from, and a clause has at most one literal for each term.
--- Picked are an entry by a choice, the literals at the least, and the literal of a clause. Assumes nothing.
-use Prim.Native.Nat.{ℕ, _*_, _≤_, _<_, min}
+-- What is picked stands in the list that it is picked from: an entry by a choice, the literals at the least, the literal of a clause. Assumes nothing.
+use Prim.Native.Nat.{ℕ, _<_, min}
 use mathlib.Core.Path.{_≡_, refl, sym}
 use mathlib.Core.Bool.{Bool, true, false}
 use mathlib.Core.List.{List, [], _∷_, map}
 use native.Mathlib.Omega.{arith}
-use lib.ListN.{length, length-map}
+use lib.ListN.{length}
 use lib.Dec.{eqb, ltb}
-use borrow.Author.Tests.{ltb-true, lt-ltb, eq-eqb, eqb-false}
+use borrow.Author.Tests.{ltb-true, eq-eqb, eqb-false}
 use Rattle.draw.specs.declared.Drawn.{Drawn}
 use Rattle.draw.specs.Draw.{choiceOf}
 use Rattle.draw.proofs.Laws.{choice-lt}
 use Rattle.written.specs.declared.Order.{Order}
-use Rattle.written.specs.Lists.{all, those, below, has, times, differ, leastOf}
-use Rattle.written.specs.Clauses.{State, termOf}
+use Rattle.written.specs.Lists.{all, those, has, times, leastOf}
+use Rattle.written.specs.Clauses.{State}
 use Rattle.written.specs.Drawing.{Pick, choice, heads, chosenFrom}
 use Rattle.written.specs.Walk.{breakOf, leastBreak, atLeast, oneOf, afterHeads, literalIn}
-use Rattle.laws.specs.Valid.{isClause}
-use Rattle.laws.proofs.Basics.{by-cases, by-test, both, both-first, both-second, one-most}
-use Rattle.laws.proofs.Lists.{listFrom-length}
-use Rattle.laws.proofs.Sums.{total-most}
+use Rattle.laws.proofs.Basics.{by-cases, by-test}
 use Rattle.laws.proofs.All.{all-has}
 use Rattle.laws.proofs.Membership.{has-getD}
-use Rattle.laws.proofs.Times.{has-times, times-has, differ-times, times-those, times-below}
-use Rattle.laws.proofs.Sizes.{clause-below, clause-differs}
+use Rattle.laws.proofs.Times.{has-times, times-has, times-those}
 
 -- ---- a choice
 
@@ -90,22 +85,3 @@ literal-has o s ls y h =
 
 pub has-below : (n c : ℕ) (xs : List ℕ) → has c xs ≡ true → all (λ l. ltb l n) xs ≡ true → c < n
 has-below n c xs h a = ltb-true c n (all-has (λ l. ltb l n) xs c h a)
-
--- below twice n, of terms below n
-terms-below : (n : ℕ) (ls : List ℕ) → all (λ l. ltb l (2 * n)) ls ≡ true → all (λ t. ltb t n) (map termOf ls) ≡ true
-unfolding termOf
-terms-below n [] h = refl
-terms-below n (l ∷ ls) h =
-    let a = ltb-true l (2 * n) (both-first _ _ h) in
-    both _ _ (lt-ltb (termOf l) n (omega arith)) (terms-below n ls (both-second (ltb l (2 * n)) _ h))
-
--- numbers below n that differ are at most n
-pub differ-few : (n : ℕ) (xs : List ℕ) → all (λ x. ltb x n) xs ≡ true → differ xs ≡ true → length xs ≤ n
-differ-few n xs h d =
-    let once : (k : ℕ) → times k xs ≤ 1 = λ k. omega (arith, differ-times k xs d, one-most (has k xs)) in
-    omega (arith, times-below n xs h, total-most (λ k. times k xs) once (below n), listFrom-length 0 n (λ (k : ℕ). k))
-
--- each term at most once, so at most as many literals as terms
-pub clause-few : (n : ℕ) (ls : List ℕ) → isClause n ls ≡ true → length ls ≤ n
-clause-few n ls h =
-    omega (arith, length-map ls termOf, differ-few n (map termOf ls) (terms-below n ls (clause-below n ls h)) (clause-differs n ls h))

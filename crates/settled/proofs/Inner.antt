@@ -5,10 +5,14 @@ use mathlib.Core.List.{List}
 use Rattle.machine.specs.Uncovered.{Uncovered}
 use Rattle.machine.specs.Tallies.{Tallies}
 use Rattle.machine.specs.Moving.{Moving}
+use Rattle.walking_choice.specs.declared.Picked.{Picked}
+use Rattle.walking_steps.specs.declared.At.{At}
+use Rattle.walking_steps.specs.Stepping.{Stand, uncoveredNumber}
 use Rattle.reading_lines.specs.Drafting.{Desk}
 use Rattle.reading_end.specs.Clearing.{Others}
 use Rattle.reading_end.specs.Finishing.{Finished}
 use Rattle.pages.specs.Pages.{Page}
+use Rattle.written.specs.Drawing.{Pick}
 use Rattle.written.specs.Program.{Ran}
 use Rattle.settled.specs.Outcomes.{Public, Inner}
 use Rattle.settled.proofs.Facts.{meet, same, both, all-three, ten, five}
@@ -32,6 +36,8 @@ use Rattle.names.proofs.add as add
 use Rattle.flipping.proofs.flip_term as flip-term
 use Rattle.flipping.proofs.flip_all as flip-all
 use Rattle.walking_choice.proofs.chosen_from as chosen-from
+use Rattle.walking_choice.proofs.literal_in as literal-in
+use Rattle.walking_steps.proofs.one_walk as one-walk
 use Rattle.walking.proofs.walk_tested as walk-tested
 use Rattle.reading_end.proofs.verdict as verdict
 use Rattle.reading_end.proofs.clear_draft as clear-draft
@@ -98,14 +104,31 @@ rests-agree-settled M 𝓤 H A mem run κs a g = record { one-outcome = λ x y. 
 pub add-settled : Inner add.ended (λ M. add.clauses)
 add-settled M 𝓤 H A mem run κs a g = record { one-outcome = λ x y. all-three 𝓤 (λ r p q. same refl (λ i. (meet (p .0) (q .0) i, (meet (p .1) (q .1) i, (tt, (tt, (tt, tt))))))) }
 
+-- what is left behind the tables of the counts, before what follows them
+abbrev counted : {R : Type 0} → Moving → R → List ℕ × (List ℕ × (List ℕ × (List ℕ × R)))
+counted m r = (m .tallies .trues, (m .tallies .breaks, (m .tallies .uncovered .list, (m .tallies .uncovered .places, r))))
+
 pub flip-term-settled : Inner flip-term.ended (λ M. flip-term.clauses)
-flip-term-settled M 𝓤 H A mem run κs a g = record { one-outcome = λ x y. all-three 𝓤 (λ r p q. let e = meet p q in same (ap (λ m. m .tallies .uncovered .number) e) (ap (λ (m : Moving). (m .words, (tt, (tt, (m .tallies .trues, (m .tallies .breaks, (m .tallies .uncovered .list, (m .tallies .uncovered .places, (tt, (tt, tt)))))))))) e)) }
+flip-term-settled M 𝓤 H A mem run κs a g = record { one-outcome = λ x y. all-three 𝓤 (λ r p q. let e = meet p q in same (ap (λ m. m .tallies .uncovered .number) e) (ap (λ (m : Moving). (m .words, (tt, (tt, counted m (tt, (tt, tt)))))) e)) }
 
 pub flip-all-settled : Inner flip-all.ended (λ M. flip-all.clauses)
-flip-all-settled M 𝓤 H A mem run κs a g = record { one-outcome = λ x y. all-three 𝓤 (λ r p q. let e = meet p q in same (ap (λ m. m .tallies .uncovered .number) e) (ap (λ (m : Moving). (tt, (m .words, (tt, (tt, (m .tallies .trues, (m .tallies .breaks, (m .tallies .uncovered .list, (m .tallies .uncovered .places, (tt, tt)))))))))) e)) }
+flip-all-settled M 𝓤 H A mem run κs a g = record { one-outcome = λ x y. all-three 𝓤 (λ r p q. let e = meet p q in same (ap (λ m. m .tallies .uncovered .number) e) (ap (λ (m : Moving). (tt, (m .words, (tt, (tt, counted m (tt, tt)))))) e)) }
+
+-- what was picked, and where a walk stands, as the code hands it back
+abbrev handed : Pick → Picked
+handed p = record { entry = p .picked; next = record { state = p .state } }
+
+abbrev standing : Stand → At
+standing v = record { number = uncoveredNumber v; generator = record { state = v .generator }; flips = v .flips }
 
 pub chosen-from-settled : Inner chosen-from.ended (λ M. chosen-from.clauses)
-chosen-from-settled M 𝓤 H A mem run κs a g = record { one-outcome = λ x y. all-three 𝓤 (λ r p q. let e = meet p q in same (λ i. record { entry = e i .picked; next = record { state = e i .state } }) refl) }
+chosen-from-settled M 𝓤 H A mem run κs a g = record { one-outcome = λ x y. all-three 𝓤 (λ r p q. same (ap handed (meet p q)) refl) }
+
+pub literal-in-settled : Inner literal-in.ended (λ M. literal-in.clauses)
+literal-in-settled M 𝓤 H A mem run κs a g = record { one-outcome = λ x y. all-three 𝓤 (λ r p q. same (ap handed (meet p q)) refl) }
+
+pub one-walk-settled : Inner one-walk.ended (λ M. one-walk.clauses)
+one-walk-settled M 𝓤 H A mem run κs a g = record { one-outcome = λ x y. all-three 𝓤 (λ r p q. let e = meet p q in same (ap standing e) (ap (λ (v : Stand). (tt, (tt, (v .tables .words, (tt, (tt, (tt, (tt, counted (v .tables) (tt, tt))))))))) e)) }
 
 pub walk-tested-settled : Inner walk-tested.ended (λ M. walk-tested.clauses)
 walk-tested-settled M 𝓤 H A mem run κs a g = record { one-outcome = λ x y. all-three 𝓤 (λ r p q. let e = meet p q in same (the-answer e) (ap (λ l. (tt, (tt, five (l .tables) tt))) e)) }
@@ -119,17 +142,13 @@ clear-draft-settled M 𝓤 H A mem run κs a g = record { asks-nothing = refl; o
 pub clear-others-settled : Public clear-others.ended (λ M. clear-others.clauses)
 clear-others-settled M 𝓤 H A mem run κs a g = record { asks-nothing = refl; one-outcome = λ x y. both 𝓤 (λ p q. same refl (ap (λ (w : Others). (w .values, (w .occurrenceStarts, (w .occurrences, (w .trues, (w .uncovered, tt)))))) (meet p q))) }
 
--- what is left behind the tables of the counts, which come last
-abbrev counted : Moving → List ℕ × (List ℕ × (List ℕ × (List ℕ × Unit {0})))
-counted m = (m .tallies .trues, (m .tallies .breaks, (m .tallies .uncovered .list, (m .tallies .uncovered .places, tt))))
-
 pub finish-settled : Inner finish.ended (λ M. finish.clauses)
 finish-settled M 𝓤 H A mem run κs a g =
     record {
       one-outcome = λ x y. all-three 𝓤
           (λ r p q. let e = meet p q in
           same (ap (λ (w : Finished). w .counts) e)
-          (ap (λ (w : Finished). (tt, (tt, (tt, (w .clauses .literals, (w .clauses .occurrenceStarts, (w .clauses .occurrences, counted (w .moved)))))))) e));
+          (ap (λ (w : Finished). (tt, (tt, (tt, (w .clauses .literals, (w .clauses .occurrenceStarts, (w .clauses .occurrences, counted (w .moved) tt))))))) e));
     }
 
 pub put-byte-settled : Inner put-byte.ended (λ M. put-byte.clauses)

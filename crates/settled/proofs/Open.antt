@@ -14,16 +14,12 @@ use Rattle.machine.specs.Slots.{Vacant}
 use Rattle.names.specs.declared.Found.{Found}
 use Rattle.names.specs.declared.Found.the-variants.{At, New}
 use Rattle.names.specs.Finding.{homes, Finds}
-use Rattle.walking_choice.specs.declared.Picked.{Picked}
-use Rattle.walking_steps.specs.declared.At.{At as Standing}
 use Rattle.reading_literal.specs.declared.Taken.{Taken}
 use Rattle.reading_literal.specs.Taking.{newTerms, newLiterals, putIf, Took}
 use Rattle.settled.specs.Outcomes.{Inner, InnerSeen}
 use Rattle.settled.proofs.Facts.{meet, same, all-three}
 use Rattle.tables.proofs.part as part
 use Rattle.names.proofs.find as find
-use Rattle.walking_choice.proofs.literal_in as literal-in
-use Rattle.walking_steps.proofs.one_walk as one-walk
 use Rattle.reading_literal.proofs.take as taken
 
 -- a search has one answer: where the name first stands, or the first empty slot
@@ -55,14 +51,6 @@ find-settled M 𝓤 H A mem run κs a g = record { one-outcome = λ x y. all-thr
 -- what the part shows, not where it lies
 pub part-settled : InnerSeen part.ended (List ℕ) (λ κs a x. now (x .result)) (λ M. part.clauses)
 part-settled M 𝓤 H A mem run κs a g = record { one-seen = λ x y. all-three 𝓤 (λ r p q. meet p q) }
-
--- not what stays in the list of those at the least
-pub literal-in-settled : InnerSeen literal-in.ended Picked (λ κs a x. x .result) (λ M. literal-in.clauses)
-literal-in-settled M 𝓤 H A mem run κs a g = record { one-seen = λ x y. all-three 𝓤 (λ r p q. let e = meet p q in (λ i. record { entry = e i .picked; next = record { state = e i .state } })) }
-
--- likewise
-pub one-walk-settled : InnerSeen one-walk.ended (Standing × List ℕ × List ℕ × List ℕ × List ℕ × List ℕ) (λ κs a x. (x .result, x .left .1 .1 .0, x .left .1 .1 .1 .1 .1 .1 .1 .0, x .left .1 .1 .1 .1 .1 .1 .1 .1 .0, x .left .1 .1 .1 .1 .1 .1 .1 .1 .1 .0, x .left .1 .1 .1 .1 .1 .1 .1 .1 .1 .1 .0)) (λ M. one-walk.clauses)
-one-walk-settled M 𝓤 H A mem run κs a g = record { one-seen = λ x y. all-three 𝓤 (λ r p q. let e = meet p q in (λ i. (record { number = e i .tables .tallies .uncovered .number; generator = record { state = e i .generator }; flips = e i .flips }, e i .tables .words, e i .tables .tallies .trues, e i .tables .tallies .breaks, e i .tables .tallies .uncovered .list, e i .tables .tallies .uncovered .places))) }
 
 -- not the stamps and slots: which slot a name takes is the search's business
 pub taken-settled : InnerSeen taken.ended (Taken × List ℕ × List ℕ) (λ κs a x. (x .result, x .left .0, x .left .1 .0)) (λ M. taken.clauses)

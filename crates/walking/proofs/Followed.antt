@@ -65,14 +65,14 @@ module _ (top full : ℕ) (x : Fixed) (base : Moving) where
 -- ---- that they can be made
 
 -- after one walk the others can
-pub walks-on : (top room most T C k : ℕ) (o : Order) (x : Fixed) (v : Stand) → CanWalks top room most T C (suc k) o x v
-    → CanWalks top room most T C k o x (walkIn o T C x v)
-walks-on top room most T C k o x v h =
+pub walks-on : (top most T C k : ℕ) (o : Order) (x : Fixed) (v : Stand) → CanWalks top most T C (suc k) o x v
+    → CanWalks top most T C k o x (walkIn o T C x v)
+walks-on top most T C k o x v h =
     record {
-      begin = walk-begins top room T C o x v (h .begin);
+      begin = walk-begins top T C o x v (h .begin);
       few = let made = walk-made o T C x v in omega (arith, h .few);
     }
 
 -- the flips of one more can be counted
-pub one-fits : (top room most T C k : ℕ) (o : Order) (x : Fixed) (v : Stand) → CanWalks top room most T C (suc k) o x v → v .flips + o .flips < most
-one-fits top room most T C k o x v h = omega (arith, h .few)
+pub one-fits : (top most T C k : ℕ) (o : Order) (x : Fixed) (v : Stand) → CanWalks top most T C (suc k) o x v → v .flips + o .flips < most
+one-fits top most T C k o x v h = omega (arith, h .few)

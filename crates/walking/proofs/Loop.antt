@@ -11,14 +11,14 @@ use Rattle.walking_steps.specs.Following.{CanBegin}
 use Rattle.walking.specs.Walking.{End, end, walksIn, CanWalks}
 use Rattle.walking.proofs.Followed.{walks-on, one-fits}
 
-module _ (top room most T C : ℕ) (o : Order) (x : Fixed) (u : Stand) where
+module _ (top most T C : ℕ) (o : Order) (x : Fixed) (u : Stand) where
   abbrev whole : End
   whole = walksIn o T C x (o .walks) 0 u
 
   -- from v, after n walks, k are left of those that were to be made from u
   pub record Left (k n : ℕ) (v : Stand) : Type 0 where
     pub sum : n + k ≡ o .walks
-    pub can : CanWalks top room most T C k o x v
+    pub can : CanWalks top most T C k o x v
     pub rest : walksIn o T C x k n v ≡ whole
 
   -- some number of them is left
@@ -26,7 +26,7 @@ module _ (top room most T C : ℕ) (o : Order) (x : Fixed) (u : Stand) where
     pub count : ℕ
     pub left : Left count n v
 
-  pub begun : CanWalks top room most T C (o .walks) o x u → Going 0 u
+  pub begun : CanWalks top most T C (o .walks) o x u → Going 0 u
   begun h = record { count = o .walks; left = record { sum = omega arith; can = h; rest = refl } }
 
   module _ (v : Stand) (n : ℕ) where
@@ -40,11 +40,11 @@ module _ (top room most T C : ℕ) (o : Order) (x : Fixed) (u : Stand) where
     over g h = none-left (g .count) (g .left) h
 
     -- one more can be made
-    left-can : (k : ℕ) → Left k n v → n < o .walks → CanBegin top room T C x v × (v .flips + o .flips < most)
+    left-can : (k : ℕ) → Left k n v → n < o .walks → CanBegin top T C x v × (v .flips + o .flips < most)
     left-can zero g h = absurd (omega (arith, g .sum, h))
-    left-can (suc k) g h = (g .can .begin, one-fits top room most T C k o x v (g .can))
+    left-can (suc k) g h = (g .can .begin, one-fits top most T C k o x v (g .can))
 
-    pub next-can : Going n v → n < o .walks → CanBegin top room T C x v × (v .flips + o .flips < most)
+    pub next-can : Going n v → n < o .walks → CanBegin top T C x v × (v .flips + o .flips < most)
     next-can g h = left-can (g .count) (g .left) h
 
     module _ {w : Stand} (f : w ≡ walkIn o T C x v) where
@@ -68,7 +68,7 @@ module _ (top room most T C : ℕ) (o : Order) (x : Fixed) (u : Stand) where
             left =
                 record {
                   sum = omega (arith, g .sum);
-                  can = rw f (walks-on top room most T C k o x v (g .can));
+                  can = rw f (walks-on top most T C k o x v (g .can));
                   rest = rw (more, f) (rw (ne-eqb _ _ (rw f at e)) at (g .rest));
                 };
           }

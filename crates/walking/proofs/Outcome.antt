@@ -89,7 +89,7 @@ module _ (lim : Limits) (o : Order) (n : Counts) (t : Tables) (ok : Allowed lim 
         }
 
     -- they can be made, if all their flips can be counted
-    pub can-walk : (most : ℕ) → walksAll .most * flipsEach .most < most → CanWalks top (lim .terms) most (n .terms) (n .clauses) (o .walks) o (fixedIn t) v
+    pub can-walk : (most : ℕ) → walksAll .most * flipsEach .most < most → CanWalks top most (n .terms) (n .clauses) (o .walks) o (fixedIn t) v
     can-walk most few =
         let range = ranged o (ok .range) in
         record {
@@ -102,7 +102,6 @@ module _ (lim : Limits) (o : Order) (n : Counts) (t : Tables) (ok : Allowed lim 
                 follows = begins;
                 terms = sized .terms;
                 clauses = sized .clauses;
-                fits = omega (arith, sized .terms, valid .proper .few-terms);
               };
           few = let made = mul-le-mul (range .walks-most) (range .flips-most) in omega arith;
         }

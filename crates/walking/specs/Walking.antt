@@ -23,6 +23,6 @@ walksIn o T C x (suc k) n v =
     cond (isFoundIn w) (end true (suc n) w) (walksIn o T C x k (suc n) w)
 
 -- what k walks ask: that one can begin, and that the flips of all are counted below most
-pub record CanWalks (top room most T C k : ℕ) (o : Order) (x : Fixed) (v : Stand) : Type 0 where
-  pub begin : CanBegin top room T C x v
+pub record CanWalks (top most T C k : ℕ) (o : Order) (x : Fixed) (v : Stand) : Type 0 where
+  pub begin : CanBegin top T C x v
   pub few : v .flips + k * o .flips < most

@@ -2,7 +2,6 @@
 // A function that another crate of the library calls may ask something of its tables, by one record, which its caller proves; none is exported.
 ghost use mathlib.Core.Path.{_≡_};
 ghost use Prim.Native.Nat.{_^_};
-ghost use lib.ListN.{length};
 ghost use Rattle.written.specs.Limits.{narrow};
 ghost use Rattle.written.specs.Lending.{lentAt, lentBefore, lentAfter};
 ghost use Rattle.written.specs.Outcomes.{leaves};
@@ -38,10 +37,9 @@ fn all_walks(
     breaks: &mut [u16],
     list: &mut [u16],
     places: &mut [u16],
-    ties: &mut [u16],
     from: At,
 ) -> Ended
-    requires { ⌜ CanWalks 65536 (length (now ties)) (2 ^ 32) (n .terms) (n .clauses) (order .walks) order
+    requires { ⌜ CanWalks 65536 (2 ^ 32) (n .terms) (n .clauses) (order .walks) order
         (fixedAt starts literals «occurrence_starts» occurrences)
         (standAt values trues breaks list places from) ⌝ }
     ensures { λ r. ⌜ end (r .found) (r .walks) (standAfter values trues breaks list places (r .at))
@@ -63,7 +61,6 @@ fn all_walks(
             breaks,
             list,
             places,
-            ties,
             at,
         );
         begun += 1;
@@ -82,7 +79,7 @@ fn all_walks(
     }
 }
 
-// The walks of an order on tables that have been tested, or have just been read. The list for the literals at the least is made once.
+// The walks of an order on tables that have been tested, or have just been read.
 pub fn walk_tested(
     order: Order,
     n: Counts,
@@ -101,7 +98,6 @@ pub fn walk_tested(
     ensures { λ r. ⌜ leaves r (lentAfter names values starts literals «occurrence_starts» occurrences trues breaks uncovered places)
         ≡ walkMade narrow order n (lentBefore names values starts literals «occurrence_starts» occurrences trues breaks uncovered places) ⌝ }
 {
-    let mut ties = [0u16; 2048];
     let e = all_walks(
         order,
         n,
@@ -114,7 +110,6 @@ pub fn walk_tested(
         breaks,
         uncovered,
         places,
-        &mut ties,
         At {
             number: n.uncovered as usize,
             generator: Generator::new(order.seed),

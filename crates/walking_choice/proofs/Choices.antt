@@ -6,7 +6,7 @@ use native.Mathlib.Omega.{arith}
 use lib.ListN.{length, getD}
 use borrow.Author.Tests.{eq-eqb, ne-eqb, lt-ltb, le-ltb}
 use Rattle.draw.specs.declared.Drawn.{Drawn}
-use Rattle.draw.specs.Draw.{choiceOf, headsOf}
+use Rattle.draw.specs.Draw.{headsOf}
 use Rattle.draw.proofs.Laws.{choice-lt}
 use Rattle.written.specs.declared.Order.{Order}
 use Rattle.written.specs.Drawing.{Pick, choice, heads, entryAt, chosenFrom}
@@ -14,13 +14,14 @@ use Rattle.written.specs.Walk.{oneOf, afterHeads}
 use Rattle.walking_choice.specs.Choosing.{pick, leastBy, tiesBy, literalBy}
 
 -- the entry that a choice gives stands in the list, and is the one that is written
-module _ (xs : List ℕ) (y : ℕ) {d : Drawn} (e : d ≡ choiceOf (length xs) y) where
+module _ (o : Order) (xs : List ℕ) (y : ℕ) {d : Drawn} (e : d ≡ choice o (length xs) y) where
   pub chosen-stands : 0 < length xs → d .number < length xs
+  unfolding choice
   chosen-stands s = rw e (choice-lt (length xs) y s)
 
-  pub chosen-is : (o : Order) → entryAt xs d ≡ chosenFrom o xs y
-  unfolding chosenFrom choice
-  chosen-is o = ap (entryAt xs) e
+  pub chosen-is : entryAt xs d ≡ chosenFrom o xs y
+  unfolding chosenFrom
+  chosen-is = ap (entryAt xs) e
 
 -- "one is taken without a draw, several by a choice"
 pub one-alone : (o : Order) (xs : List ℕ) (y : ℕ) → length xs ≡ 1 → pick (getD xs 0 0) y ≡ oneOf o xs y

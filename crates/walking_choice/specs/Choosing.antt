@@ -1,5 +1,5 @@
 -- The literal that is picked in a clause, by break counts h of its literals; and what the code asks to pick it. Assumes nothing.
-use Prim.Native.Nat.{ℕ, _/_, _≤_, _<_}
+use Prim.Native.Nat.{ℕ, _+_, _/_, _<_}
 use mathlib.Core.Bool.{cond}
 use mathlib.Core.List.{List, [], _∷_, map}
 use lib.ListN.{length, getD}
@@ -8,6 +8,7 @@ use Rattle.written.specs.declared.Order.{Order}
 use Rattle.written.specs.Lists.{those, leastOf}
 use Rattle.written.specs.Drawing.{Pick, heads}
 use Rattle.written.specs.Walk.{oneOf, afterHeads}
+use Rattle.machine.specs.Tallies.{hitOf}
 
 abbrev pub pick : ℕ → ℕ → Pick
 pick k y = record { picked = k; state = y }
@@ -24,6 +25,24 @@ leastBy h (l ∷ ls) = leastOf (h l) (map h ls)
 unfoldable pub tiesBy : (ℕ → ℕ) → ℕ → List ℕ → List ℕ
 tiesBy h b ls = those (λ l. eqb (h l) b) ls
 
+-- what one look at each of the literals gives: the least, how many are at it, and the first of them
+pub record Lowest : Type 0 where
+  pub low : ℕ
+  pub number : ℕ
+  pub first : ℕ
+
+abbrev pub lowest : ℕ → ℕ → ℕ → Lowest
+lowest b k l = record { low = b; number = k; first = l }
+
+unfoldable pub lowestIn : (ℕ → ℕ) → List ℕ → Lowest
+lowestIn h ls =
+    let ties : List ℕ = tiesBy h (leastBy h ls) ls in
+    lowest (leastBy h ls) (length ties) (getD ties 0 0)
+
+-- and what it gives with a literal l more, whose break count is b
+unfoldable pub besides : Lowest → ℕ → ℕ → Lowest
+besides s l b = cond (ltb b (s .low)) (lowest b 1 l) (lowest (s .low) (s .number + hitOf b (s .low)) (s .first))
+
 -- the literal that is picked
 unfoldable pub literalBy : Order → (ℕ → ℕ) → List ℕ → ℕ → Pick
 literalBy o h ls y =
@@ -39,8 +58,7 @@ pub record CanDraw (top : ℕ) (xs : List ℕ) : Type 0 where
 pub record HaveBreaks (bs ls : List ℕ) : Type 0 where
   pub terms : (i : ℕ) → i < length ls → getD ls i 0 / 2 < length bs
 
--- what it asks to pick a literal, with room for so many at the least
-pub record CanPick (top room : ℕ) (bs ls : List ℕ) : Type 0 where
+-- what it asks to pick a literal
+pub record CanPick (top : ℕ) (bs ls : List ℕ) : Type 0 where
   pub draw : CanDraw top ls
   pub breaks : HaveBreaks bs ls
-  pub fits : length ls ≤ room

@@ -1,11 +1,12 @@
 // The choices of a walk: an entry of a list, and the literal of a clause whose term is flipped.
 // A function that another crate of the library calls may ask something of its tables, by one record, which its caller proves; none is exported.
 ghost use mathlib.Core.Path.{_≡_};
-ghost use Prim.Native.Nat.{_/_, _≤_, _<_, min};
-ghost use lib.ListN.{length, take};
-ghost use Rattle.written.specs.Drawing.{chosenFrom};
+ghost use Prim.Native.Nat.{_+_, _/_, _^_, _<_};
+ghost use lib.ListN.{length, getD};
+ghost use Rattle.written.specs.Drawing.{choice, chosenFrom};
 ghost use Rattle.written.specs.Walk.{oneOf};
-ghost use Rattle.walking_choice.specs.Choosing.{pick, breakIn, leastBy, tiesBy, literalBy, CanDraw, HaveBreaks, CanPick};
+ghost use Rattle.walking_choice.specs.Choosing.{pick, breakIn, tiesBy, lowest, lowestIn, besides, literalBy, CanDraw, CanPick};
+use draw::Drawn;
 use draw::Generator;
 use written::Order;
 
@@ -15,31 +16,31 @@ pub struct Picked {
     pub next: Generator,
 }
 
+// The least break count among the literals looked at, how many are at it, and the first of them.
+struct Least {
+    low: u16,
+    number: usize,
+    first: u16,
+}
+
+// Each choice of a walk is made here.
+fn choice(order: Order, m: u32, g: Generator) -> Drawn
+    ensures { λ r. ⌜ r ≡ choice order m (g .state) ⌝ }
+{
+    g.choice(m)
+}
+
 // A choice among the entries of a list, drawn even for one.
 pub fn chosen_from(order: Order, list: &[u16], g: Generator) -> Picked
     requires { ⌜ CanDraw 65536 (now list) ⌝ }
     ensures { λ r. ⌜ pick (r .entry) (r .next .state) ≡ chosenFrom order (now (list .entry)) (g .state) ⌝ }
 {
-    let d = g.choice(list.len() as u32);
+    let d = choice(order, list.len() as u32, g);
     let next = d.next;
     Picked {
         entry: list[d.number as usize],
         next,
     }
-}
-
-// One entry is taken without a draw, several by a choice.
-fn one_of(order: Order, ties: &[u16], g: Generator) -> Picked
-    requires { ⌜ CanDraw 65536 (now ties) ⌝ }
-    ensures { λ r. ⌜ pick (r .entry) (r .next .state) ≡ oneOf order (now (ties .entry)) (g .state) ⌝ }
-{
-    if ties.len() == 1 {
-        return Picked {
-            entry: ties[0],
-            next: g,
-        };
-    }
-    chosen_from(order, ties, g)
 }
 
 // The break count of a literal's term.
@@ -50,85 +51,93 @@ fn break_of(breaks: &[u16], l: u16) -> u16
     breaks[(l / 2) as usize]
 }
 
-// The smaller of two break counts.
-fn smaller(a: u16, b: u16) -> u16
-    ensures { λ r. ⌜ r ≡ min a b ⌝ }
+// One literal l more was looked at, whose break count is b.
+fn beside(s: Least, l: u16, b: u16) -> Least
+    requires { ⌜ s .number + 1 < 2 ^ 64 ⌝ }
+    ensures { λ r. ⌜ lowest (r .low) (r .number) (r .first) ≡ besides (lowest (s .low) (s .number) (s .first)) l b ⌝ }
 {
-    if a < b {
-        return a;
+    if b < s.low {
+        return Least {
+            low: b,
+            number: 1,
+            first: l,
+        };
     }
-    b
+    let number = s.number + tables::one_for(b, s.low);
+    Least {
+        low: s.low,
+        number,
+        first: s.first,
+    }
 }
 
-// The least break count in a clause.
-fn least_break(breaks: &[u16], clause: &[u16]) -> u16
-    requires { ⌜ HaveBreaks (now breaks) (now clause) × (0 < length (now clause)) ⌝ }
-    ensures { λ r. ⌜ r ≡ leastBy (breakIn (now (breaks .entry))) (now (clause .entry)) ⌝ }
+// The literals of a clause looked at once.
+fn least_in(breaks: &[u16], clause: &[u16]) -> Least
+    requires { ⌜ CanPick 65536 (now breaks) (now clause) ⌝ }
+    ensures { λ r. ⌜ lowest (r .low) (r .number) (r .first) ≡ lowestIn (breakIn (now (breaks .entry))) (now (clause .entry)) ⌝ }
 {
-    let mut low = break_of(breaks, clause[0]);
+    let l = clause[0];
+    let mut s = Least {
+        low: break_of(breaks, l),
+        number: 1,
+        first: l,
+    };
     let mut i = 1;
     while i < clause.len() {
-        // none is lower
-        if low == 0 {
-            return low;
-        }
-        low = smaller(low, break_of(breaks, clause[i]));
-        i += 1;
-    }
-    low
-}
-
-// The literals of a clause whose break count is m, in reading order, collected; how many. Each is written, and counted if it is one: no jump is made on it.
-fn collect(breaks: &[u16], clause: &[u16], m: u16, ties: &mut [u16]) -> usize
-    requires { ⌜ HaveBreaks (now breaks) (now clause) × (length (now clause) ≤ length (now ties)) ⌝ }
-    ensures { λ r. ⌜ (take r (now (ties .exit)) ≡ tiesBy (breakIn (now (breaks .entry))) m (now (clause .entry))) × (r ≤ length (now (ties .exit))) ⌝ }
-{
-    let mut k = 0;
-    let mut i = 0;
-    while i < clause.len() {
         let l = clause[i];
-        ties[k] = l;
-        k = k + tables::one_for(break_of(breaks, l), m);
+        s = beside(s, l, break_of(breaks, l));
         i += 1;
     }
-    k
+    s
 }
 
-// One of the literals at the least.
-fn one_at(
-    order: Order,
-    breaks: &[u16],
-    clause: &[u16],
-    m: u16,
-    ties: &mut [u16],
-    g: Generator,
-) -> Picked
-    requires { ⌜ CanPick 65536 (length (now ties)) (now breaks) (now clause) × (m ≡ leastBy (breakIn (now breaks)) (now clause)) ⌝ }
-    ensures { λ r. ⌜ pick (r .entry) (r .next .state) ≡ oneOf order (tiesBy (breakIn (now (breaks .entry))) m (now (clause .entry))) (g .state) ⌝ }
+// The literal at place j among those of a clause whose break count is m, in reading order.
+fn nth_at(breaks: &[u16], clause: &[u16], m: u16, j: usize) -> u16
+    requires { ⌜ CanPick 65536 (now breaks) (now clause) × (j < length (tiesBy (breakIn (now breaks)) m (now clause))) ⌝ }
+    ensures { λ r. ⌜ r ≡ getD (tiesBy (breakIn (now (breaks .entry))) m (now (clause .entry))) j 0 ⌝ }
 {
-    let k = collect(breaks, clause, m, ties);
-    one_of(order, &ties[..k], g)
+    let mut left = j + 1;
+    let mut i = 0;
+    while 0 < left {
+        left = left - tables::one_for(break_of(breaks, clause[i]), m);
+        i += 1;
+    }
+    clause[i - 1]
+}
+
+// One of the literals at the least: taken without a draw where there is one, several by a choice.
+fn one_at(order: Order, breaks: &[u16], clause: &[u16], least: Least, g: Generator) -> Picked
+    requires { ⌜ CanPick 65536 (now breaks) (now clause)
+        × (lowest (least .low) (least .number) (least .first) ≡ lowestIn (breakIn (now breaks)) (now clause)) ⌝ }
+    ensures { λ r. ⌜ pick (r .entry) (r .next .state) ≡ oneOf order (tiesBy (breakIn (now (breaks .entry))) (least .low) (now (clause .entry))) (g .state) ⌝ }
+{
+    if least.number == 1 {
+        return Picked {
+            entry: least.first,
+            next: g,
+        };
+    }
+    let d = choice(order, least.number as u32, g);
+    let next = d.next;
+    Picked {
+        entry: nth_at(breaks, clause, least.low, d.number as usize),
+        next,
+    }
 }
 
 // The literal of a clause whose term is flipped.
-pub fn literal_in(
-    order: Order,
-    breaks: &[u16],
-    clause: &[u16],
-    ties: &mut [u16],
-    g: Generator,
-) -> Picked
-    requires { ⌜ CanPick 65536 (length (now ties)) (now breaks) (now clause) ⌝ }
+pub fn literal_in(order: Order, breaks: &[u16], clause: &[u16], g: Generator) -> Picked
+    requires { ⌜ CanPick 65536 (now breaks) (now clause) ⌝ }
     ensures { λ r. ⌜ pick (r .entry) (r .next .state) ≡ literalBy order (breakIn (now (breaks .entry))) (now (clause .entry)) (g .state) ⌝ }
 {
-    let m = least_break(breaks, clause);
-    if m == 0 {
-        return one_at(order, breaks, clause, m, ties, g);
+    let least = least_in(breaks, clause);
+    if least.low == 0 {
+        return one_at(order, breaks, clause, least, g);
     }
     let d = g.heads(order.bias);
     let next = d.next;
     if d.number == 1 {
         return chosen_from(order, clause, next);
     }
-    one_at(order, breaks, clause, m, ties, next)
+    one_at(order, breaks, clause, least, next)
 }

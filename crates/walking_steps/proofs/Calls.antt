@@ -32,7 +32,7 @@ module _ (T C : ℕ) (x : Fixed) (v : Stand) {ws : List ℕ} (w : ws ≡ filled 
   is-started g e = rw (e, g, w)
 
 -- a step: a clause is picked, then a literal in it, whose term is flipped
-module _ (top room : ℕ) (o : Order) (x : Fixed) (v : Stand) (h : CanStep top room o x v) {c y : ℕ} (p : pick c y ≡ chosenFrom o (uncoveredList v) (v .generator)) where
+module _ (top : ℕ) (o : Order) (x : Fixed) (v : Stand) (h : CanStep top o x v) {c y : ℕ} (p : pick c y ≡ chosenFrom o (uncoveredList v) (v .generator)) where
   is-clause : pick c y ≡ clauseFor o v
   unfolding clauseFor
   is-clause = p
@@ -44,7 +44,7 @@ module _ (top room : ℕ) (o : Order) (x : Fixed) (v : Stand) (h : CanStep top r
     is-read : ls ≡ clauseAt x (clauseFor o v)
     is-read = e ∙ ap (clauseAt x) is-clause
 
-    pub can-pick : CanPick top room (v .tables .tallies .breaks) ls
+    pub can-pick : CanPick top (v .tables .tallies .breaks) ls
     can-pick = rw is-read (h .pick)
 
     module _ {l z : ℕ} (q : pick l z ≡ literalBy o (breakIn (v .tables .tallies .breaks)) ls y) where
@@ -73,12 +73,12 @@ module _ (T C : ℕ) (x : Fixed) (v : Stand) where
   unfolding startIn recounted
   start-reads = refl
 
-  pub can-start : {top room : ℕ} → CanBegin top room T C x v → CanStart top T C clauses v
-  can-start h = record { counts = start-can _ _ T C x v h .counts }
+  pub can-start : {top : ℕ} → CanBegin top T C x v → CanStart top T C clauses v
+  can-start h = record { counts = start-can _ T C x v h .counts }
 
   module _ {s : Stand} (e : s ≡ startIn T C clauses v) where
-    pub can-go : {top room k most : ℕ} → CanBegin top room T C x v → v .flips + k < most → CanGo top room k most x s
-    can-go h few = rw (e, start-reads) (start-goes _ _ T C _ _ x v h few)
+    pub can-go : {top k most : ℕ} → CanBegin top T C x v → v .flips + k < most → CanGo top k most x s
+    can-go h few = rw (e, start-reads) (start-goes _ T C _ _ x v h few)
 
     pub is-walked : (o : Order) {w : Stand} → w ≡ onwardsIn o x (o .flips) s → w ≡ walkIn o T C x v
     unfolding walkIn

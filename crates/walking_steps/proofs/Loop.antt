@@ -9,16 +9,16 @@ use Rattle.walking_steps.specs.Stepping.{Stand, uncoveredNumber, stepIn,
 use Rattle.walking_steps.specs.Following.{CanGo}
 use Rattle.walking_steps.proofs.Steps.{step-can, step-goes}
 
-module _ (top room most : ℕ) (o : Order) (x : Fixed) (u : Stand) where
+module _ (top most : ℕ) (o : Order) (x : Fixed) (u : Stand) where
   -- at v so many steps are left of those that were to be made from u
   abbrev leftAt : Stand → ℕ
   leftAt v = u .flips + o .flips - v .flips
 
   pub record Going (v : Stand) : Type 0 where
-    pub can : CanGo top room (leftAt v) most x v
+    pub can : CanGo top (leftAt v) most x v
     pub rest : onwardsIn o x (leftAt v) v ≡ onwardsIn o x (o .flips) u
 
-  pub begun : CanGo top room (o .flips) most x u → Going u
+  pub begun : CanGo top (o .flips) most x u → Going u
   begun h = let e : leftAt u ≡ o .flips = omega arith in record { can = rw e h; rest = rw e }
 
   module _ (v : Stand) (g : Going v) where
@@ -38,8 +38,8 @@ module _ (top room most : ℕ) (o : Order) (x : Fixed) (u : Stand) where
 
     -- one more can be made, and then one less is left
     module _ (h : v .flips < u .flips + o .flips) (e : uncoveredNumber v ≡ 0 → ⊥) where
-      pub next-can : CanStep top room o x v × (v .flips + 1 < most)
-      next-can = (step-can top room (leftAt v) most o x v (g .can) e, omega (arith, g .can .few, h))
+      pub next-can : CanStep top o x v × (v .flips + 1 < most)
+      next-can = (step-can top (leftAt v) most o x v (g .can) e, omega (arith, g .can .few, h))
 
       less : leftAt v ≡ suc (leftAt (stepIn o x v))
       unfolding stepIn
@@ -50,6 +50,6 @@ module _ (top room most : ℕ) (o : Order) (x : Fixed) (u : Stand) where
       again f =
           rw f
           (record {
-            can = step-goes top room (leftAt (stepIn o x v)) most o x v (rw less at (g .can)) e;
+            can = step-goes top (leftAt (stepIn o x v)) most o x v (rw less at (g .can)) e;
             rest = rw (less, ne-eqb _ _ e) at (g .rest);
           })

@@ -40,8 +40,8 @@ walk-follows ρ top full T C o x base m v f t c =
 pub walk-file : (o : Order) (m : Moment) → onwards o (o .flips) (start m) .state .file ≡ m .state .file
 walk-file o m = onwards-keeps (λ e. e .state .file ≡ m .state .file) o (λ e q h. step-file o e ∙ h) (o .flips) (start m) (start-file m)
 
-pub walk-begins : (top room T C : ℕ) (o : Order) (x : Fixed) (v : Stand) → CanBegin top room T C x v → CanBegin top room T C x (walkIn o T C x v)
-walk-begins top room T C o x v b =
+pub walk-begins : (top T C : ℕ) (o : Order) (x : Fixed) (v : Stand) → CanBegin top T C x v → CanBegin top T C x (walkIn o T C x v)
+walk-begins top T C o x v b =
     record {
       place = walking;
       full = b .full;
@@ -50,7 +50,6 @@ walk-begins top room T C o x v b =
       follows = walk-follows (b .place) top (b .full) T C o x (b .base) (b .moment) v (b .follows) (b .terms) (b .clauses);
       terms = ap (λ (f : File). length (f .names)) (walk-file o (b .moment)) ∙ b .terms;
       clauses = ap (λ (f : File). length (f .clauses)) (walk-file o (b .moment)) ∙ b .clauses;
-      fits = b .fits;
     }
 
 -- a walk makes at most its flips

@@ -13,7 +13,6 @@ use Rattle.written.specs.Walk.{Moment, start}
 use Rattle.laws.proofs.Padding.{over-again}
 use Rattle.laws.proofs.Values.{words-length}
 use Rattle.laws.proofs.Starts.{start-length, start-bits, filled-start}
-use Rattle.laws.proofs.Endings.{start-values}
 use Rattle.machine.specs.Moving.{Fixed, Moving}
 use Rattle.machine.specs.Passes.{recounted}
 use Rattle.machine.specs.Holds.{Ready}
@@ -72,22 +71,21 @@ module _ (ρ : State → ℕ → ℕ) (top full : ℕ) (x : Fixed) (base : Movin
       })
 
 -- a start can be made, and the tables then hold the written start
-pub start-can : (top room T C : ℕ) (x : Fixed) (v : Stand) → CanBegin top room T C x v → CanStart top T C x v
-start-can top room T C x v b = rw (b .terms, b .clauses) at (can (b .place) top (b .full) x (b .base) (b .moment) v (b .follows))
+pub start-can : (top T C : ℕ) (x : Fixed) (v : Stand) → CanBegin top T C x v → CanStart top T C x v
+start-can top T C x v b = rw (b .terms, b .clauses) at (can (b .place) top (b .full) x (b .base) (b .moment) v (b .follows))
 
 pub start-follows : (ρ : State → ℕ → ℕ) (top full T C : ℕ) (x : Fixed) (base : Moving) (m : Moment) (v : Stand) → Follows ρ top full x base m v
     → length (m .state .file .names) ≡ T → length (m .state .file .clauses) ≡ C → Follows walking top full x base (start m) (startIn T C x v)
 start-follows ρ top full T C x base m v f t c = rw (t, c) at (follows ρ top full x base m v f)
 
 -- and the walk can go on from there
-pub start-goes : (top room T C k most : ℕ) (x : Fixed) (v : Stand) → CanBegin top room T C x v → v .flips + k < most → CanGo top room k most x (startIn T C x v)
+pub start-goes : (top T C k most : ℕ) (x : Fixed) (v : Stand) → CanBegin top T C x v → v .flips + k < most → CanGo top k most x (startIn T C x v)
 unfolding startIn start afresh
-start-goes top room T C k most x v b l =
+start-goes top T C k most x v b l =
     record {
       full = b .full;
       base = b .base;
       moment = start (b .moment);
       follows = start-follows (b .place) top (b .full) T C x (b .base) (b .moment) v (b .follows) (b .terms) (b .clauses);
-      fits = rw (start-values (b .moment), b .terms) (b .fits);
       few = l;
     }

@@ -22,7 +22,7 @@ use Rattle.laws.proofs.Membership.{has-getD}
 use Rattle.laws.proofs.Turning.{turned-length, turned-bits}
 use Rattle.laws.proofs.Values.{turn-over}
 use Rattle.laws.proofs.Sizes.{clause-some, clause-below}
-use Rattle.laws.proofs.Picks.{literal-has, clause-few, has-below}
+use Rattle.laws.proofs.Picks.{literal-has, has-below}
 use Rattle.machine.specs.Moving.{Fixed, Moving, flipTerm}
 use Rattle.machine.proofs.Law.{flip-can, flip-walking, flip-kept}
 use Rattle.machine.proofs.Standings.{kept-trans}
@@ -123,8 +123,8 @@ module _ (top full : ℕ) (o : Order) (x : Fixed) (base : Moving) (m : Moment) (
         flips = ap suc (f .flips);
       })
 
-  can : (room : ℕ) → length vs ≤ room → CanStep top room o x v
-  can room fits =
+  can : CanStep top o x v
+  can =
       record {
         list = listed walking top full x base m v f;
         draw = record { some = any; short = omega (arith, many, f .tables .places .fits, f .tables .holds .few-clauses) };
@@ -134,24 +134,22 @@ module _ (top full : ℕ) (o : Order) (x : Fixed) (base : Moving) (m : Moment) (
             (record {
               draw = record { some = ltb-true _ _ (clause-some (length vs) ls valid); short = f .tables .holds .short c c-below };
               breaks = record { terms = λ i q. omega (arith, term-below (getD ls i 0) (has-getD ls i 0 q), f .tables .breaks-room) };
-              fits = omega (arith, fits, clause-few (length vs) ls valid);
             });
         flip = flip-can top (m .state) x (v .tables) (f .tables) (l / 2) t-below;
       }
 
 -- a step can be made
-pub step-can : (top room k most : ℕ) (o : Order) (x : Fixed) (v : Stand) → CanGo top room k most x v → (uncoveredNumber v ≡ 0 → ⊥) → CanStep top room o x v
-step-can top room k most o x v g some = can top (g .full) o x (g .base) (g .moment) v (g .follows) some room (g .fits)
+pub step-can : (top k most : ℕ) (o : Order) (x : Fixed) (v : Stand) → CanGo top k most x v → (uncoveredNumber v ≡ 0 → ⊥) → CanStep top o x v
+step-can top k most o x v g some = can top (g .full) o x (g .base) (g .moment) v (g .follows) some
 
 -- and the walk can go on after it
-pub step-goes : (top room k most : ℕ) (o : Order) (x : Fixed) (v : Stand) → CanGo top room (suc k) most x v → (uncoveredNumber v ≡ 0 → ⊥) → CanGo top room k most x (stepIn o x v)
+pub step-goes : (top k most : ℕ) (o : Order) (x : Fixed) (v : Stand) → CanGo top (suc k) most x v → (uncoveredNumber v ≡ 0 → ⊥) → CanGo top k most x (stepIn o x v)
 unfolding stepIn step inClause flipPicked flip
-step-goes top room k most o x v g some =
+step-goes top k most o x v g some =
     record {
       full = g .full;
       base = g .base;
       moment = step o (g .moment);
       follows = step-follows top (g .full) o x (g .base) (g .moment) v (g .follows) some;
-      fits = rw (turned-length _ (g .moment .state .values)) (g .fits);
       few = let h = g .few in omega arith;
     }

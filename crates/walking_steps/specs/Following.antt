@@ -1,5 +1,5 @@
 -- What it means that tables on which a walk stands hold a written moment, and that a walk can go on from there. Assumes nothing.
-use Prim.Native.Nat.{ℕ, _+_, _≤_, _<_}
+use Prim.Native.Nat.{ℕ, _+_, _<_}
 use mathlib.Core.Path.{_≡_}
 use mathlib.Core.List.{[]}
 use lib.ListN.{length, getD}
@@ -33,8 +33,8 @@ pub record Follows (ρ : State → ℕ → ℕ) (top full : ℕ) (x : Fixed) (ba
   pub generator : v .generator ≡ m .generator
   pub flips : v .flips ≡ m .flips
 
--- there is a moment that the tables hold: a walk over T terms and C clauses can start; room is for the literals at the least
-pub record CanBegin (top room T C : ℕ) (x : Fixed) (v : Stand) : Type 0 where
+-- there is a moment that the tables hold: a walk over T terms and C clauses can start
+pub record CanBegin (top T C : ℕ) (x : Fixed) (v : Stand) : Type 0 where
   pub place : State → ℕ → ℕ
   pub full : ℕ
   pub base : Moving
@@ -42,13 +42,11 @@ pub record CanBegin (top room T C : ℕ) (x : Fixed) (v : Stand) : Type 0 where
   pub follows : Follows place top full x base moment v
   pub terms : length (moment .state .file .names) ≡ T
   pub clauses : length (moment .state .file .clauses) ≡ C
-  pub fits : T ≤ room
 
 -- and a walk can go on for k steps more, whose flips are counted below most
-pub record CanGo (top room k most : ℕ) (x : Fixed) (v : Stand) : Type 0 where
+pub record CanGo (top k most : ℕ) (x : Fixed) (v : Stand) : Type 0 where
   pub full : ℕ
   pub base : Moving
   pub moment : Moment
   pub follows : Follows walking top full x base moment v
-  pub fits : length (moment .state .values) ≤ room
   pub few : v .flips + k < most

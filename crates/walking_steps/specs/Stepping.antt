@@ -62,12 +62,12 @@ flipFor x v p = record { tables = flipTerm x (p .picked / 2) (v .tables); genera
 unfoldable pub stepIn : Order → Fixed → Stand → Stand
 stepIn o x v = flipFor x v (literalFor o x v)
 
--- what a step asks; top is 2 to the width of an entry, and there is room for so many literals at the least
-pub record CanStep (top room : ℕ) (o : Order) (x : Fixed) (v : Stand) : Type 0 where
+-- what a step asks; top is 2 to the width of an entry
+pub record CanStep (top : ℕ) (o : Order) (x : Fixed) (v : Stand) : Type 0 where
   pub list : uncoveredNumber v ≤ length (v .tables .tallies .uncovered .list)
   pub draw : CanDraw top (uncoveredList v)
   pub clause : CanPart (x .starts) (x .literals) (clauseFor o v .picked)
-  pub pick : CanPick top room (v .tables .tallies .breaks) (clauseAt x (clauseFor o v))
+  pub pick : CanPick top (v .tables .tallies .breaks) (clauseAt x (clauseFor o v))
   pub flip : CanFlip top x (literalFor o x v .picked / 2) (v .tables)
 
 -- ---- a start, for T terms and C clauses

@@ -4,7 +4,6 @@
 ghost use mathlib.Core.Path.{_≡_};
 ghost use mathlib.Core.List.{[]};
 ghost use Prim.Native.Nat.{_+_, _^_, _<_};
-ghost use lib.ListN.{length};
 ghost use Rattle.machine.specs.Moving.{fixed, fixedAt, fixedBefore};
 ghost use Rattle.walking_steps.specs.Stepping.{standAt, standBefore, standAfter, stepIn, CanStep, startIn, CanStart, onwardsIn, walkIn};
 ghost use Rattle.walking_steps.specs.Following.{CanBegin, CanGo};
@@ -31,10 +30,9 @@ fn step(
     breaks: &mut [u16],
     list: &mut [u16],
     places: &mut [u16],
-    ties: &mut [u16],
     at: At,
 ) -> At
-    requires { ⌜ CanStep 65536 (length (now ties)) order (fixedAt starts literals «occurrence_starts» occurrences)
+    requires { ⌜ CanStep 65536 order (fixedAt starts literals «occurrence_starts» occurrences)
         (standAt values trues breaks list places at)
         × (at .flips + 1 < 2 ^ 32) ⌝ }
     ensures { λ r. ⌜ standAfter values trues breaks list places r
@@ -46,7 +44,7 @@ fn step(
     let c = walking_choice::chosen_from(order, &list[..number], g);
     let then = c.next;
     let clause = tables::part(starts, literals, c.entry as usize);
-    let l = walking_choice::literal_in(order, breaks, clause, ties, then);
+    let l = walking_choice::literal_in(order, breaks, clause, then);
     let next = l.next;
     let left = flipping::flip_term(
         values,
@@ -79,10 +77,9 @@ fn onwards(
     breaks: &mut [u16],
     list: &mut [u16],
     places: &mut [u16],
-    ties: &mut [u16],
     from: At,
 ) -> At
-    requires { ⌜ CanGo 65536 (length (now ties)) (order .flips) (2 ^ 32) (fixedAt starts literals «occurrence_starts» occurrences)
+    requires { ⌜ CanGo 65536 (order .flips) (2 ^ 32) (fixedAt starts literals «occurrence_starts» occurrences)
         (standAt values trues breaks list places from) ⌝ }
     ensures { λ r. ⌜ standAfter values trues breaks list places r
         ≡ onwardsIn order (fixedBefore starts literals «occurrence_starts» occurrences) (order .flips)
@@ -105,7 +102,6 @@ fn onwards(
             breaks,
             list,
             places,
-            ties,
             at,
         );
     }
@@ -164,10 +160,9 @@ pub fn one_walk(
     breaks: &mut [u16],
     list: &mut [u16],
     places: &mut [u16],
-    ties: &mut [u16],
     from: At,
 ) -> At
-    requires { ⌜ CanBegin 65536 (length (now ties)) (n .terms) (n .clauses) (fixedAt starts literals «occurrence_starts» occurrences)
+    requires { ⌜ CanBegin 65536 (n .terms) (n .clauses) (fixedAt starts literals «occurrence_starts» occurrences)
         (standAt values trues breaks list places from)
         × (from .flips + order .flips < 2 ^ 32) ⌝ }
     ensures { λ r. ⌜ standAfter values trues breaks list places r
@@ -196,7 +191,6 @@ pub fn one_walk(
         breaks,
         list,
         places,
-        ties,
         at,
     )
 }

@@ -8,25 +8,25 @@ use Rattle.walking_steps.proofs.step.Statement.{statement}
 use Rattle.walking_steps.proofs.step.Tie as tie
 
 slice-aggregate-chosen-from : tie.Need-slice-aggregate-chosen-from
-slice-aggregate-chosen-from c = sym (length-take-le _ _ (c .before .before .before .before .before .before .before .before .before .before .before .before .pre .0 .list))
+slice-aggregate-chosen-from c = sym (length-take-le _ _ (c .before .before .before .before .before .before .before .before .before .before .before .pre .0 .list))
 
 chosen-from-requires : tie.Need-chosen-from-requires
-chosen-from-requires c κs = c .before .before .before .before .before .before .before .before .before .before .before .before .pre .0 .draw
+chosen-from-requires c κs = c .before .before .before .before .before .before .before .before .before .before .before .pre .0 .draw
 
 part-requires : tie.Need-part-requires
-part-requires c κs = can-part _ _ _ _ _ (c .before .before .before .before .before .before .before .before .before .before .before .before .before .before .before .pre .0) (c .before .before .chosen-from .ensures)
+part-requires c κs = can-part _ _ _ _ (c .before .before .before .before .before .before .before .before .before .before .before .before .before .before .pre .0) (c .before .before .chosen-from .ensures)
 
 literal-in-requires : tie.Need-literal-in-requires
-literal-in-requires c κs = can-pick _ _ _ _ _ (c .before .before .before .before .before .before .before .before .before .before .before .before .before .before .before .before .before .before .pre .0) (c .before .before .before .before .before .chosen-from .ensures) (c .before .before .part .ensures)
+literal-in-requires c κs = can-pick _ _ _ _ (c .before .before .before .before .before .before .before .before .before .before .before .before .before .before .before .before .pre .0) (c .before .before .before .before .chosen-from .ensures) (c .before .part .ensures)
 
 flip-term-requires : tie.Need-flip-term-requires
-flip-term-requires c κs = can-flip _ _ _ _ _ (c .before .before .before .before .before .before .before .before .before .before .before .before .before .before .before .before .before .before .before .before .before .before .before .before .before .before .before .before .pre .0) (c .before .before .before .before .before .before .before .before .before .before .before .before .before .before .before .chosen-from .ensures) (c .before .before .before .before .before .before .before .before .before .before .before .before .part .ensures) (c .before .before .before .before .before .before .before .before .before .literal-in .ensures)
+flip-term-requires c κs = can-flip _ _ _ _ (c .before .before .before .before .before .before .before .before .before .before .before .before .before .before .before .before .before .before .before .before .before .before .before .before .pre .0) (c .before .before .before .before .before .before .before .before .before .before .before .before .chosen-from .ensures) (c .before .before .before .before .before .before .before .before .before .part .ensures) (c .before .before .before .before .before .before .before .literal-in .ensures)
 
 add-flips : tie.Need-add-made
-add-flips c = omega (arith, c .before .before .before .before .before .before .before .before .before .before .before .before .before .before .before .before .before .before .before .before .before .before .before .before .before .before .before .before .before .before .before .before .before .before .before .before .before .before .before .before .pre .1)
+add-flips c = omega (arith, c .before .before .before .before .before .before .before .before .before .before .before .before .before .before .before .before .before .before .before .before .before .before .before .before .before .before .before .before .before .before .before .before .before .before .before .before .pre .1)
 
 returns : tie.Need-returns
-returns c = is-stepped _ _ _ _ _ (c .before .before .before .before .before .before .before .before .before .before .before .before .before .before .before .before .before .before .before .before .before .before .before .before .before .before .before .before .before .before .before .before .before .before .before .before .before .before .before .before .pre .0) (c .before .before .before .before .before .before .before .before .before .before .before .before .before .before .before .before .before .before .before .before .before .before .before .before .before .before .before .chosen-from .ensures) (c .before .before .before .before .before .before .before .before .before .before .before .before .before .before .before .before .before .before .before .before .before .before .before .before .part .ensures) (c .before .before .before .before .before .before .before .before .before .before .before .before .before .before .before .before .before .before .before .before .before .literal-in .ensures) (c .before .before .before .before .before .before .before .before .before .before .before .flip-term .ensures)
+returns c = is-stepped _ _ _ _ (c .before .before .before .before .before .before .before .before .before .before .before .before .before .before .before .before .before .before .before .before .before .before .before .before .before .before .before .before .before .before .before .before .before .before .before .before .pre .0) (c .before .before .before .before .before .before .before .before .before .before .before .before .before .before .before .before .before .before .before .before .before .before .before .before .chosen-from .ensures) (c .before .before .before .before .before .before .before .before .before .before .before .before .before .before .before .before .before .before .before .before .before .part .ensures) (c .before .before .before .before .before .before .before .before .before .before .before .before .before .before .before .before .before .before .before .literal-in .ensures) (c .before .before .before .before .before .before .before .before .before .before .before .flip-term .ensures)
 
 pub step-spec : {M : Type 1} → statement M
 step-spec =
@@ -38,6 +38,4 @@ step-spec =
     (λ c. c .before .before .before .before .before .before .breaks .given)
     (λ c. c .before .before .before .before .list .given)
     (λ c. c .before .before .places .given)
-    (λ c. c .before .before .before .before .before .before .before .before .before .before .before .before .before .before .before .before .before
-    .before .before .before .ties .given)
     returns)
