@@ -20,7 +20,7 @@ pub struct WalkAnswer {
     pub counts: Counts,
 }
 
-/// What one flip was chosen among.
+/// What one flip was chosen among, and what was chosen.
 #[derive(Clone, Copy, Debug, PartialEq, Eq)]
 pub struct Step {
     pub uncovered: usize,
@@ -30,6 +30,9 @@ pub struct Step {
     pub at_least: usize,
     /// Whether the draw was heads, where one was made.
     pub heads: Option<bool>,
+    /// The literal that was picked, and the generator's state afterwards.
+    pub literal: usize,
+    pub state: u32,
 }
 
 /// Walks from agreeing tables and leaves its end in them.
@@ -126,8 +129,8 @@ impl<'a> Walker<'a> {
                 return false;
             }
             let clause = self.choose_clause();
-            let term = self.choose_term(clause);
-            self.state.flip(term, &self.occurrences);
+            let literal = self.choose_literal(clause);
+            self.state.flip(term_of(literal), &self.occurrences);
             flips_of_this_walk += 1;
             self.flips += 1;
         }
@@ -152,28 +155,31 @@ impl<'a> Walker<'a> {
     }
 
     /// Step 4; the literals stay in reading order throughout.
-    fn choose_term(&mut self, clause: usize) -> usize {
+    fn choose_literal(&mut self, clause: usize) -> usize {
         let literals = self.state.clauses[clause].clone();
         let least = self.least_break_count(&literals);
         let mut at_least = literals.clone();
         at_least.retain(|literal| self.break_count(*literal) == least);
         let heads = (least > 0).then(|| self.generator.heads(self.order.bias));
+        let literal = match at_least[..] {
+            _ if heads == Some(true) => self.choose_among(&literals),
+            [only] => only,
+            _ => self.choose_among(&at_least),
+        };
         (self.tell)(Step {
             uncovered: self.state.uncovered.len(),
             literals: literals.len(),
             least,
             at_least: at_least.len(),
             heads,
+            literal,
+            state: self.generator.state,
         });
-        match at_least[..] {
-            _ if heads == Some(true) => self.choose_among(&literals),
-            [only] => term_of(only),
-            _ => self.choose_among(&at_least),
-        }
+        literal
     }
 
     fn choose_among(&mut self, literals: &[usize]) -> usize {
-        term_of(literals[self.generator.choice(literals.len())])
+        literals[self.generator.choice(literals.len())]
     }
 
     fn least_break_count(&self, literals: &[usize]) -> usize {
