@@ -16,7 +16,7 @@ use Rattle.laws.proofs.All.{all-below, below-all}
 use Rattle.laws.proofs.Membership.{differ-first, differ-rest, differ-map}
 use Rattle.machine.specs.Tallies.{raised}
 use Rattle.machine.specs.Judging.{passes, clauseRight}
-use Rattle.machine.specs.Matching.{standsAt, isNext, passOne, clauseNext, passClause, runsPassed}
+use Rattle.agreeing_file.specs.Matching.{standsAt, isNext, passOne, clauseNext, passClause, runsPassed}
 use Rattle.laws.proofs.Tests.{all-same}
 
 -- a run from place k on is c and more exactly if c stands there, and the more from the next place on

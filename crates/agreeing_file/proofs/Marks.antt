@@ -13,7 +13,7 @@ use Rattle.written.specs.Clauses.{termOf}
 use Rattle.written.specs.Agreement.{partOf}
 use Rattle.laws.proofs.Basics.{by-eq, by-lt, both, both-first, both-second, same-tests}
 use Rattle.machine.specs.Judging.{clauseRight, literalsRight, clausesIn, passes}
-use Rattle.machine.specs.Marks.{isFresh, markTerm}
+use Rattle.agreeing_file.specs.Marks.{isFresh, markTerm}
 use Rattle.laws.proofs.Tests.{test-fails, tested-more, tested-all}
 
 -- a literal is below twice the terms exactly if its term is one of them

@@ -16,7 +16,7 @@ use Rattle.laws.proofs.Lists.{listFrom-length, getD-listOf}
 use Rattle.machine.specs.Moving.{CanPart}
 use Rattle.machine.specs.Judging.{clausesIn, clauseRight, literalsRight, turnedRight}
 use Rattle.machine.specs.Cuts.{Cuts}
-use Rattle.machine.specs.Matching.{cutsRight, clausesNext, passClauses, runsPassed, CanPassAll, CanMatch}
+use Rattle.agreeing_file.specs.Matching.{cutsRight, clausesNext, passClauses, runsPassed, CanPassAll, CanMatch}
 use Rattle.laws.proofs.Tests.{not-both}
 use Rattle.machine.proofs.Cuts.{can-cut, short-part}
 use Rattle.machine.proofs.Occurrences.{turned-cuts, turned-part, parts-turned}

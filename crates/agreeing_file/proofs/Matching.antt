@@ -11,7 +11,7 @@ use Rattle.written.specs.Agreement.{partOf}
 use Rattle.laws.proofs.Basics.{both, both-first, both-second}
 use Rattle.laws.proofs.All.{all-below, below-all}
 use Rattle.machine.specs.Cuts.{Cuts}
-use Rattle.machine.specs.Matching.{neverFall, cutsRight, standsAt, isNext, clauseNext, runsPassed, CanPass}
+use Rattle.agreeing_file.specs.Matching.{neverFall, cutsRight, standsAt, isNext, clauseNext, runsPassed, CanPass}
 use Rattle.laws.proofs.Tests.{tested-more, test-fails, tested-all}
 
 -- starts that never fall, tested one after another

@@ -17,8 +17,6 @@ use Rattle.laws.proofs.Sizes.{Fit}
 use Rattle.laws.proofs.Holding.{full-at}
 use Rattle.machine.specs.Judging.{clausesIn, startsRight, literalsRight, turnedRight, fileRight}
 use Rattle.machine.specs.Cuts.{Cuts}
-use Rattle.machine.specs.Marks.{CanMark}
-use Rattle.machine.specs.Matching.{CanMatch}
 use Rattle.machine.specs.Tested.{CanCounts}
 use Rattle.machine.proofs.Cuts.{right-cuts, can-cut}
 use Rattle.machine.proofs.Occurrences.{turned-can, turned-part}
@@ -50,50 +48,27 @@ module _ (lim : Limits) (n : Counts) (h : countsFit lim n ≡ true) where
   unfolding fullSizes sizes
   literals-room k f = omega (arith, counts-fit .literals)
 
-  -- with starts that are right
-  pub can-mark : (top : ℕ) → lim .clauses < top → (ss ls : List ℕ) → fullSizes lim .starts ≤ length ss → fullSizes lim .literals ≤ length ls
-      → startsRight (n .clauses) (n .literals) ss ≡ true → CanMark top (lim .terms) (n .terms) (n .clauses) ss ls
-  can-mark top m ss ls a b r =
-      record {
-        parts = can-cut (n .clauses) (n .literals) ss (right-cuts _ _ ss (starts-room _ a) r) ls (literals-room _ b);
-        terms = counts-fit .terms;
-        clauses = omega (arith, counts-fit .clauses);
-      }
-
   -- with a file that is right
   module _ (names ss ls : List ℕ) (sr : fullSizes lim .starts ≤ length ss) (lr : fullSizes lim .literals ≤ length ls) (r : fileRight n names ss ls ≡ true) where
-    starts-right : startsRight (n .clauses) (n .literals) ss ≡ true
+    pub starts-right : startsRight (n .clauses) (n .literals) ss ≡ true
     unfolding fileRight
     starts-right = search (both-first, both-second)
 
-    literals-right : literalsRight (n .terms) (clausesIn (n .clauses) ss ls) ≡ true
+    pub literals-right : literalsRight (n .terms) (clausesIn (n .clauses) ss ls) ≡ true
     unfolding fileRight
     literals-right = search (both-first, both-second)
 
-    cuts : Cuts (n .clauses) (n .literals) ss
+    pub cuts : Cuts (n .clauses) (n .literals) ss
     cuts = right-cuts _ _ ss (starts-room _ sr) starts-right
 
     module _ (os oc : List ℕ) (or : fullSizes lim .occurrenceStarts ≤ length os) (cr : fullSizes lim .occurrences ≤ length oc) where
-      runs-room : 2 * n .terms < length os
+      pub runs-room : 2 * n .terms < length os
       unfolding fullSizes sizes
       runs-room = omega (arith, counts-fit .terms)
 
-      occurrences-room : n .literals ≤ length oc
+      pub occurrences-room : n .literals ≤ length oc
       unfolding fullSizes sizes
       occurrences-room = omega (arith, counts-fit .literals)
-
-      pub can-match : (top : ℕ) → lim .clauses ≤ top → lim .literals < top → CanMatch top (2 * lim .terms) (n .terms) (n .clauses) (n .literals) ss ls os oc
-      can-match top mc ml =
-          record {
-            cuts = cuts;
-            right = literals-right;
-            literals = literals-room _ lr;
-            starts = runs-room;
-            occurrences = occurrences-room;
-            few-terms = omega (arith, counts-fit .terms);
-            few-clauses = omega (arith, counts-fit .clauses);
-            few-literals = omega (arith, counts-fit .literals);
-          }
 
       -- and occurrences that are
       pub can-counts : turnedRight (n .terms) (n .literals) (clausesIn (n .clauses) ss ls) os oc ≡ true → (ws ts bs us ps : List ℕ)

@@ -8,8 +8,6 @@ pub mod Holds
 pub mod Lent
 pub mod Judging
 pub mod Cuts
-pub mod Marks
 pub mod Tested
-pub mod Matching
 pub mod Filling
 pub mod Slots

@@ -4,7 +4,7 @@ use native.Mathlib.Omega.{arith}
 use lib.ListN.{length, length-set}
 use borrow.Author.Needs.{needs}
 use Rattle.written.specs.Clauses.{termOf}
-use Rattle.machine.specs.Marks.{isFresh, markTerm}
+use Rattle.agreeing_file.specs.Marks.{isFresh, markTerm}
 use Rattle.laws.proofs.Tests.{not-both}
 use Rattle.agreeing_file.proofs.Passing.{Passing, begun, fails, again, ended}
 use Rattle.agreeing_file.proofs.Marks.{unknown, repeated, fresh}

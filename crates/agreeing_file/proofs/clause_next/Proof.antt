@@ -3,7 +3,7 @@ use Prim.Native.Nat.{_-_}
 use native.Mathlib.Omega.{arith}
 use lib.ListN.{length}
 use Rattle.written.specs.Agreement.{partOf}
-use Rattle.machine.specs.Matching.{isNext, passOne, clauseNext, passClause}
+use Rattle.agreeing_file.specs.Matching.{isNext, passOne, clauseNext, passClause}
 use Rattle.laws.proofs.Tests.{not-both}
 use Rattle.agreeing_file.proofs.Passing.{Passing, begun, fails, again, ended}
 use Rattle.agreeing_file.proofs.Matching.{can-still}

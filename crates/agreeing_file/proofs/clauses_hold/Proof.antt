@@ -4,7 +4,7 @@ use native.Mathlib.Omega.{arith}
 use borrow.Author.Needs.{needs}
 use Rattle.written.specs.Limits.{narrow}
 use Rattle.machine.specs.Judging.{fileRight}
-use Rattle.machine.proofs.File.{can-match}
+use Rattle.agreeing_file.proofs.Rooms.{can-match}
 use Rattle.agreeing_file.proofs.clauses_hold.Statement.{statement}
 use Rattle.agreeing_file.proofs.clauses_hold.Tie as tie
 

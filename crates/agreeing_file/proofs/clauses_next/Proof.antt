@@ -4,7 +4,7 @@ use native.Mathlib.Omega.{arith}
 use lib.ListN.{length}
 use Rattle.written.specs.Lists.{below}
 use Rattle.written.specs.Agreement.{partOf}
-use Rattle.machine.specs.Matching.{clauseNext, passClause, clausesNext, passClauses}
+use Rattle.agreeing_file.specs.Matching.{clauseNext, passClause, clausesNext, passClauses}
 use Rattle.laws.proofs.Tests.{not-both}
 use Rattle.agreeing_file.proofs.Passing.{Passing, begun, range-fails, range-again, range-ended}
 use Rattle.agreeing_file.proofs.Matching.{clause-is, can-clause}

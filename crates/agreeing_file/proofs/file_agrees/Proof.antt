@@ -1,7 +1,8 @@
 use mathlib.Core.Path.{sym, _∙_}
 use native.Mathlib.Omega.{arith}
 use Rattle.written.specs.Limits.{narrow}
-use Rattle.machine.proofs.File.{counts-fit, names-room, starts-room, can-mark}
+use Rattle.machine.proofs.File.{counts-fit, names-room, starts-room}
+use Rattle.agreeing_file.proofs.Rooms.{can-mark}
 use Rattle.agreeing_file.proofs.file_agrees.Statement.{statement}
 use Rattle.agreeing_file.proofs.file_agrees.Tie as tie
 

@@ -1,7 +1,7 @@
 use mathlib.Core.Path.{refl, sym, _∙_}
 use native.Mathlib.Omega.{arith}
 use Rattle.machine.specs.Tallies.{raised}
-use Rattle.machine.specs.Matching.{passOne}
+use Rattle.agreeing_file.specs.Matching.{passOne}
 use Rattle.laws.proofs.Tests.{not-both}
 use Rattle.agreeing_file.proofs.Matching.{next-is, next-fits}
 use borrow.Author.Needs.{needs}

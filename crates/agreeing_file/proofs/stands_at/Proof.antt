@@ -1,6 +1,6 @@
 use mathlib.Core.Path.{refl}
 use borrow.Author.Tests.{lt-ltb, le-ltb}
-use Rattle.machine.specs.Matching.{standsAt}
+use Rattle.agreeing_file.specs.Matching.{standsAt}
 use borrow.Author.Needs.{needs}
 use Rattle.agreeing_file.proofs.stands_at.Statement.{statement}
 use Rattle.agreeing_file.proofs.stands_at.Tie as tie

@@ -3,7 +3,7 @@ use mathlib.Core.Bool.{true}
 use Prim.Native.Nat.{_-_, _≤_}
 use native.Mathlib.Omega.{arith}
 use lib.ListN.{getD}
-use Rattle.machine.specs.Matching.{neverFall}
+use Rattle.agreeing_file.specs.Matching.{neverFall}
 use Rattle.agreeing_file.proofs.Matching.{falls, rises-more, rises-all, cuts-first, cuts-falls, cuts-last}
 use borrow.Author.Needs.{needs}
 use Rattle.agreeing_file.proofs.starts_cut.Statement.{statement}
