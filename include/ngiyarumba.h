@@ -95,7 +95,7 @@ enum {
     NGI_BLANK_LINE = 15        /* a line is empty or has spaces only; ~ alone may stand in a line that is to say nothing */
 };
 
-/* The answer to a draw, a choice or heads. */
+/* The answer to a draw, a choice of either kind or heads. */
 typedef struct {
     uint32_t reason; /* NGI_NO_REASON, or NGI_OUT_OF_RANGE */
     uint32_t number; /* the number drawn; 0 where there is a reason */
@@ -110,6 +110,12 @@ ngi_drawn ngi_draw(uint32_t state);
 
 /* A choice among m, m above 0: the draw's remainder by m, so a number from 0 to m - 1. */
 ngi_drawn ngi_choice(uint32_t state, uint32_t m);
+
+/*
+ * A choice among m that favours no number: the draw less 1, if it is below m times the whole part of 4,294,967,295 / m, gives its remainder
+ * by m, and is drawn again otherwise, at most eight draws in all; the eighth, less 1, gives its remainder whatever it is.
+ */
+ngi_drawn ngi_choice_even(uint32_t state, uint32_t m);
 
 /* Heads, which is 1, where the draw's remainder by 1,000 is below the bias, else 0. The bias is at most 1,000. */
 ngi_drawn ngi_heads(uint32_t state, uint32_t bias);

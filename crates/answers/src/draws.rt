@@ -1,6 +1,7 @@
 // Drawing and choosing, each asked for alone.
 ghost use mathlib.Core.Path.{_≡_};
 ghost use Rattle.draw.specs.Draw.{drawOf, choiceOf, headsOf};
+ghost use Rattle.draw.specs.Even.{evenOf};
 ghost use Rattle.answers.specs.Answers.{drawAnswer};
 use draw::Drawn;
 use draw::Generator;
@@ -38,6 +39,14 @@ pub fn choice(state: u32, m: u32) -> DrawAnswer
 {
     let g = Generator::new(state);
     draw_answer(g.choice(m))
+}
+
+// An even choice among m, counted from 0.
+pub fn choice_even(state: u32, m: u32) -> DrawAnswer
+    ensures { λ r. ⌜ r ≡ drawAnswer (evenOf m state) ⌝ }
+{
+    let g = Generator::new(state);
+    draw_answer(g.even(m))
 }
 
 // 1 for heads, with the bias in thousandths, else 0.

@@ -1,10 +1,11 @@
--- Document 01's draws and refusals as one table under one statement, which antt computes. Assumes nothing.
+-- Document 01's draws and refusals, and the even choices of document 02, as one table under one statement, which antt computes. Assumes nothing.
 use Prim.Native.Nat.{ℕ}
 use mathlib.Core.Path.{_≡_, refl}
 use mathlib.Core.List.{List, [], _∷_, map}
 use Rattle.draw.specs.declared.Drawn.{Drawn}
 use Rattle.draw.specs.Xorshift.{nextOf, leftStep, rightStep}
 use Rattle.draw.specs.Draw.{drawOf, choiceOf, headsOf}
+use Rattle.draw.specs.Even.{evenFrom, evenOf}
 
 pub record Example : Type 0 where
   pub asked : Drawn
@@ -40,8 +41,21 @@ table =
     ∷ (headsOf 369 1 tells gives 0 270369)
     ∷ (headsOf 1000 1 tells gives 1 270369)
     ∷ (headsOf 0 1 tells gives 0 270369)
+    -- document 02: "take the draw less 1", where the remainder of the draw itself is 0 and 1
+    ∷ (evenOf 3 1 tells gives 2 270369)
+    ∷ (evenOf 3 270369 tells gives 0 67634689)
+    ∷ (evenOf 1 1 tells gives 0 270369)
+    -- "if it is below": 4294967295 less 1 is not for 2, is for 3, and 4294967292 less 1 is the last for 7
+    ∷ (evenOf 2 1584200935 tells gives 0 253983)
+    ∷ (evenOf 3 1584200935 tells gives 2 4294967295)
+    ∷ (evenOf 7 1236431772 tells gives 6 4294967292)
+    ∷ (evenOf 7 3137861301 tells gives 5 761949)
+    -- "at most eight draws in all, and then take the remainder of the eighth less 1 anyway": here 1264041421 of 3411525070
+    ∷ (evenOf 2147483649 8368 tells gives 1264041421 3411525071)
+    ∷ (evenOf 3 0 tells refuses 0)
+    ∷ (evenOf 0 7 tells refuses 7)
     ∷ []
 
 pub shown : map (λ e. e .asked) table ≡ map (λ e. e .told) table
-unfolding drawOf choiceOf headsOf nextOf leftStep rightStep
+unfolding drawOf choiceOf headsOf evenOf evenFrom nextOf leftStep rightStep
 shown = refl

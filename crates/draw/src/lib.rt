@@ -3,6 +3,8 @@ ghost use mathlib.Core.Path.{_≡_};
 ghost use Rattle.draw.specs.Xorshift.{nextOf};
 ghost use Rattle.draw.specs.Draw.{refusedAt, drawnTo, drawOf, choiceOf, headsOf};
 
+pub mod even;
+
 pub struct Generator {
     pub state: u32,
 }

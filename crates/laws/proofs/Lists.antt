@@ -19,6 +19,17 @@ listFrom-getD i zero k f d h = absurd (omega arith)
 listFrom-getD i (suc n) zero f d h = ap f (omega arith)
 listFrom-getD i (suc n) (suc k) f d h = listFrom-getD (suc i) n k f d (omega arith) ∙ ap f (omega arith)
 
+pub listFrom-join : {A : Type 0} (i a b : ℕ) (f : ℕ → A) → listFrom i (a + b) f ≡ listFrom i a f ++ listFrom (i + a) b f
+listFrom-join i zero b f = let e : 0 + b ≡ b = omega arith in let z : i + 0 ≡ i = omega arith in rw (e, z)
+listFrom-join i (suc a) b f =
+    let e : suc a + b ≡ suc (a + b) = omega arith in
+    let z : i + suc a ≡ suc i + a = omega arith in
+    rw (e, z) (ap (λ (xs : List _). f i ∷ xs) (listFrom-join (suc i) a b f))
+
+pub listFrom-map : {A : Type 0} (i n : ℕ) (f : ℕ → A) → map f (listFrom i n (λ k. k)) ≡ listFrom i n f
+listFrom-map i zero f = refl
+listFrom-map i (suc n) f = ap (λ (xs : List _). f i ∷ xs) (listFrom-map (suc i) n f)
+
 pub getD-listOf : {A : Type 0} (n k : ℕ) (f : ℕ → A) (d : A) → k < n → getD (listOf n f) k d ≡ f k
 getD-listOf n k f d l = let z : 0 + k ≡ k = omega arith in listFrom-getD 0 n k f d l ∙ ap f z
 

@@ -15,6 +15,7 @@ use Rattle.running_input.proofs.set_out as set-out
 use Rattle.running.proofs.run_sheet as run-sheet
 use Rattle.ngiyarumba.proofs.draws.ngi_draw as ngi-draw
 use Rattle.ngiyarumba.proofs.draws.ngi_choice as ngi-choice
+use Rattle.ngiyarumba.proofs.draws.ngi_choice_even as ngi-choice-even
 use Rattle.ngiyarumba.proofs.draws.ngi_heads as ngi-heads
 use Rattle.ngiyarumba.proofs.read.ngi_read as ngi-read
 use Rattle.ngiyarumba.proofs.walk.ngi_walk as ngi-walk
@@ -53,6 +54,9 @@ ngi-draw-settled M 𝓤 H A mem run κs a g = record { asks-nothing = refl; one-
 
 pub ngi-choice-settled : Public ngi-choice.ended (λ M. ngi-choice.clauses)
 ngi-choice-settled M 𝓤 H A mem run κs a g = record { asks-nothing = refl; one-outcome = λ x y. both 𝓤 (λ p q. same (meet p q) refl) }
+
+pub ngi-choice-even-settled : Public ngi-choice-even.ended (λ M. ngi-choice-even.clauses)
+ngi-choice-even-settled M 𝓤 H A mem run κs a g = record { asks-nothing = refl; one-outcome = λ x y. both 𝓤 (λ p q. same (meet p q) refl) }
 
 pub ngi-heads-settled : Public ngi-heads.ended (λ M. ngi-heads.clauses)
 ngi-heads-settled M 𝓤 H A mem run κs a g = record { asks-nothing = refl; one-outcome = λ x y. both 𝓤 (λ p q. same (meet p q) refl) }

@@ -6,6 +6,7 @@ use Rattle.draw.proofs.stepped as stepped
 use Rattle.draw.proofs.Generator.new as generator-new
 use Rattle.draw.proofs.Generator.drawn as drawn
 use Rattle.draw.proofs.Generator.choice as choice
+use Rattle.draw.proofs.Generator.even as even
 use Rattle.draw.proofs.Generator.heads as heads
 use Rattle.draw.proofs.draw as draw
 use Rattle.draw.proofs.draw_from as draw-from
@@ -36,6 +37,7 @@ use Rattle.reasons.proofs.number_of as number-of
 use Rattle.answers.proofs.draws.draw_answer as draw-answer
 use Rattle.answers.proofs.draws.drawn as answers-drawn
 use Rattle.answers.proofs.draws.choice as answers-choice
+use Rattle.answers.proofs.draws.choice_even as answers-choice-even
 use Rattle.answers.proofs.draws.heads as answers-heads
 use Rattle.answers.proofs.read.read_answer as read-answer
 use Rattle.answers.proofs.walk.tour_answer as tour-answer
@@ -53,6 +55,9 @@ drawn-settled M 𝓤 H A mem run κs a g = record { asks-nothing = refl; one-out
 
 pub choice-settled : Public choice.ended (λ M. choice.clauses)
 choice-settled M 𝓤 H A mem run κs a g = record { asks-nothing = refl; one-outcome = λ x y. both 𝓤 (λ p q. same (meet p q) refl) }
+
+pub even-settled : Public even.ended (λ M. even.clauses)
+even-settled M 𝓤 H A mem run κs a g = record { asks-nothing = refl; one-outcome = λ x y. both 𝓤 (λ p q. same (meet p q) refl) }
 
 pub heads-settled : Public heads.ended (λ M. heads.clauses)
 heads-settled M 𝓤 H A mem run κs a g = record { asks-nothing = refl; one-outcome = λ x y. both 𝓤 (λ p q. same (meet p q) refl) }
@@ -143,6 +148,9 @@ answers-drawn-settled M 𝓤 H A mem run κs a g = record { asks-nothing = refl;
 
 pub answers-choice-settled : Public answers-choice.ended (λ M. answers-choice.clauses)
 answers-choice-settled M 𝓤 H A mem run κs a g = record { asks-nothing = refl; one-outcome = λ x y. both 𝓤 (λ p q. same (meet p q) refl) }
+
+pub answers-choice-even-settled : Public answers-choice-even.ended (λ M. answers-choice-even.clauses)
+answers-choice-even-settled M 𝓤 H A mem run κs a g = record { asks-nothing = refl; one-outcome = λ x y. both 𝓤 (λ p q. same (meet p q) refl) }
 
 pub answers-heads-settled : Public answers-heads.ended (λ M. answers-heads.clauses)
 answers-heads-settled M 𝓤 H A mem run κs a g = record { asks-nothing = refl; one-outcome = λ x y. both 𝓤 (λ p q. same (meet p q) refl) }
