@@ -148,7 +148,7 @@ typedef struct {
 
 /*
  * Walks from drawn values, one flip after another, until no clause is uncovered (found) or until each of the walks has made its flips (gave
- * up). The values that stand are not looked at: the answer depends on the first four numbers and the clauses alone. Afterwards the tables
+ * up). The values that stand are not looked at: the answer depends on the first five numbers and the clauses alone. Afterwards the tables
  * hold the end of the last walk, ready for another call; names, starts, literals, occurrence starts and occurrences are only read. A refused
  * walk leaves every table as it was. Reasons are tested in the order 1, 11, 12.
  */
@@ -156,6 +156,7 @@ ngi_walk_answer ngi_walk(uint32_t seed,                         /* the first sta
                          uint32_t flips,                        /* for each walk: 0 to 100,000 */
                          uint32_t walks,                        /* 1 to 1,000 */
                          uint32_t bias,                         /* in thousandths: 0 to 1,000 */
+                         uint32_t even,                         /* 0 to choose as ngi_choice does, 1 as ngi_choice_even does */
                          uint32_t terms, uint32_t clauses,      /* the counts that the last call gave, */
                          uint32_t literals, uint32_t uncovered, /* all four of them */
                          NGI_TABLE_PARAMETERS(const));

@@ -14,8 +14,8 @@ use Rattle.answers.specs.declared.walk.WalkAnswer.{WalkAnswer}
 use Rattle.answers.specs.declared.flip.FlipAnswer.{FlipAnswer}
 
 -- an order, its numbers given one by one
-abbrev pub order : ℕ → ℕ → ℕ → ℕ → Order
-order s f w b = record { seed = s; flips = f; walks = w; bias = b }
+abbrev pub order : ℕ → ℕ → ℕ → ℕ → ℕ → Order
+order s f w b e = record { seed = s; flips = f; walks = w; bias = b; even = e }
 
 -- four counts, given one by one
 abbrev pub counts : ℕ → ℕ → ℕ → ℕ → Counts

@@ -28,7 +28,7 @@ use Rattle.written.specs.Printed.{decimal, line, refusedBy, refusal, report}
 use Rattle.written.specs.Program.{Course, unbegun, unread, walked, afterReading, afterSheet, courseOf, said, printed}
 use Rattle.laws.specs.Reasons.{ofText, ofSheet}
 use Rattle.laws.specs.Sheets.{Faulty, Says}
-use Rattle.laws.specs.Sheets.Faulty.{wrong-form, out-of-range}
+use Rattle.laws.specs.Sheets.Faulty.{wrong-form, out-of-range, not-the-choice}
 use Rattle.laws.specs.RunCalls.{Begins, Finds, GivesUp, IsRefused, Decides, Begun, textAfter, Refuses, Given}
 use Rattle.laws.specs.RunCalls.Refuses.{too-long, bad-sheet, bad-text}
 use Rattle.laws.proofs.Basics.{by-cases, by-lt, both-first, both-second}
@@ -78,12 +78,13 @@ module _ (lim : Limits) (input : List ℕ) where
 
 -- ---- which reasons
 
-fault-reason : (k : ℕ) (input : List ℕ) (r : Reason) → Faulty k input r → ofSheet r ≡ true
-fault-reason k input _ (wrong-form h) = refl
-fault-reason k input _ (out-of-range h l) = refl
+fault-reason : (input : List ℕ) (k : ℕ) (r : Reason) → Faulty input k r → ofSheet r ≡ true
+fault-reason input _ _ (wrong-form k few h) = refl
+fault-reason input _ _ (out-of-range k few h l) = refl
+fault-reason input _ _ (not-the-choice h l) = refl
 
 pub sheet-reasons : (input : List ℕ) (e : Fault) → sheetOf input ≡ O.Refused e → ofSheet (e .reason) ≡ true
-sheet-reasons input e q = let n = subst (Says input) q (sheet-says input) in fault-reason (n .line) input (e .reason) (n .faulty)
+sheet-reasons input e q = let n = subst (Says input) q (sheet-says input) in fault-reason input (n .line) (e .reason) (n .faulty)
 
 -- a text is not too long, since no part of the input is longer than the whole
 pub text-reasons : (lim : Limits) (input : List ℕ) (s : Sheet) (e : Fault) → Begun lim input s → readText lim (textAfter s input) ≡ refused e

@@ -6,7 +6,7 @@ use mathlib.Core.List.{List, [], _∷_}
 use lib.ListN.{length}
 use lib.Dec.{eqb, ltb}
 use Rattle.draw.specs.Xorshift.{nextOf}
-use Rattle.draw.specs.Draw.{choiceOf, headsOf}
+use Rattle.draw.specs.Draw.{headsOf}
 use Rattle.draw.specs.declared.Drawn.{Drawn}
 use Rattle.draw.proofs.Laws.{next-pos, next-fits}
 use Rattle.words.specs.Words.{stateAfter, wordCount}
@@ -17,20 +17,25 @@ use Rattle.written.specs.Walk.{Moment, start, step, leastBreak, atLeast, oneOf,
 use Rattle.laws.proofs.Basics.{by-test}
 use Rattle.laws.proofs.Walks.{begun}
 use Rattle.laws.proofs.Endings.{walks-keep}
+use Rattle.laws.proofs.Modes.{choice-state}
 
 -- what every draw keeps, a choice, heads, the picked literal, a step, a start and the walks keep
 module _ (P : ℕ → Type 0) (next : (y : ℕ) → P y → P (nextOf y)) where
-  pub choice-keeps : (m y : ℕ) → P y → P (choiceOf m y .next .state)
-  unfolding choiceOf
-  choice-keeps m y h = by-test (λ (d : Drawn). P (d .next .state)) (eqb y 0 || eqb m 0) (λ _. h) (λ _. next y h)
+  pub after-keeps : (y k : ℕ) → P y → P (stateAfter y k)
+  unfolding stateAfter
+  after-keeps y zero h = h
+  after-keeps y (suc k) h = next _ (after-keeps y k h)
+
+  pub choice-keeps : (o : Order) (m y : ℕ) → P y → P (choice o m y .next .state)
+  choice-keeps o m y h = let d = choice-state o m y in rw (d .state) (after-keeps y (d .draws) h)
 
   pub heads-keeps : (bias y : ℕ) → P y → P (headsOf bias y .next .state)
   unfolding headsOf
   heads-keeps bias y h = by-test (λ (d : Drawn). P (d .next .state)) (eqb y 0 || ltb 1000 bias) (λ _. h) (λ _. next y h)
 
   pub from-keeps : (o : Order) (xs : List ℕ) (y : ℕ) → P y → P (chosenFrom o xs y .state)
-  unfolding chosenFrom choice
-  from-keeps o xs y h = choice-keeps (length xs) y h
+  unfolding chosenFrom
+  from-keeps o xs y h = choice-keeps o (length xs) y h
 
   pub one-keeps : (o : Order) (xs : List ℕ) (y : ℕ) → P y → P (oneOf o xs y .state)
   unfolding oneOf
@@ -51,11 +56,6 @@ module _ (P : ℕ → Type 0) (next : (y : ℕ) → P y → P (nextOf y)) where
   pub step-keeps : (o : Order) (m : Moment) → P (m .generator) → P (step o m .generator)
   unfolding step inClause flipPicked
   step-keeps o m h = literal-keeps o (m .state) _ _ (from-keeps o (m .state .uncovered) (m .generator) h)
-
-  pub after-keeps : (y k : ℕ) → P y → P (stateAfter y k)
-  unfolding stateAfter
-  after-keeps y zero h = h
-  after-keeps y (suc k) h = next _ (after-keeps y k h)
 
   pub start-keeps : (m : Moment) → P (m .generator) → P (start m .generator)
   unfolding start startState

@@ -85,3 +85,11 @@ where-snoc p i (x ∷ xs) y =
 pub steps-joined : {A S : Type 0} (f : A → S → S) (xs ys : List A) (s : S) → steps f (xs ++ ys) s ≡ steps f ys (steps f xs s)
 steps-joined f [] ys s = refl
 steps-joined f (x ∷ xs) ys s = steps-joined f xs ys (f x s)
+
+-- what is left from a place on tells the place, or one from which as little is left
+pub drop-back : {A : Type 0} (j : ℕ) (xs : List A) → drop (length xs - length (drop j xs)) xs ≡ drop j xs
+drop-back zero xs = let e : length xs - length xs ≡ 0 = omega arith in rw e
+drop-back (suc j) [] = refl
+drop-back (suc j) (x ∷ xs) =
+    let e : suc (length xs) - length (drop j xs) ≡ suc (length xs - length (drop j xs)) = omega (arith, length-drop j xs) in
+    rw e (drop-back j xs)

@@ -15,7 +15,7 @@ use Rattle.written.specs.Orders.{seeds, inRange}
 use Rattle.laws.specs.Valid.{Proper, Valid}
 use Rattle.laws.specs.WalkCalls.{Comes, DrawsAt}
 use Rattle.laws.specs.WalkCalls.Comes.{seeded, starts, goes-on}
-use Rattle.laws.specs.WalkCalls.DrawsAt.{at-start, for-clause, in-clause, after-heads}
+use Rattle.laws.specs.WalkCalls.DrawsAt.{at-start, for-clause, in-clause, after-heads, again}
 use Rattle.laws.proofs.Basics.{by-cases}
 use Rattle.laws.proofs.Readings.{as-read-valid}
 use Rattle.laws.proofs.Walks.{begun, found-or}
@@ -75,6 +75,7 @@ module _ (P : ℕ → Type 0) (next : (y : ℕ) → P y → P (nextOf y)) (o : O
   draws-keep _ (at-start n j m h few missed part) = after-keeps P next (m .generator) j (at-moment n 0 m h)
   draws-keep _ (for-clause n k m h missed) = at-moment n (suc k) m h
   draws-keep _ (in-clause n k m h missed) = from-keeps P next o (m .state .uncovered) (m .generator) (at-moment n (suc k) m h)
+  draws-keep _ (again y h) = next y (draws-keep y h)
   draws-keep _ (after-heads n k m h missed) = heads-keeps P next (o .bias) _ (from-keeps P next o (m .state .uncovered) (m .generator) (at-moment n (suc k) m h))
 
 -- "The generator's state is a number from 1 to 4,294,967,295": no draw of a walk is made at the state 0

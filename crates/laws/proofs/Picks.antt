@@ -8,8 +8,6 @@ use lib.ListN.{length}
 use lib.Dec.{eqb, ltb}
 use borrow.Author.Tests.{ltb-true, eq-eqb, eqb-false}
 use Rattle.draw.specs.declared.Drawn.{Drawn}
-use Rattle.draw.specs.Draw.{choiceOf}
-use Rattle.draw.proofs.Laws.{choice-lt}
 use Rattle.written.specs.declared.Order.{Order}
 use Rattle.written.specs.Lists.{all, those, has, times, leastOf}
 use Rattle.written.specs.Clauses.{State}
@@ -18,13 +16,14 @@ use Rattle.written.specs.Walk.{breakOf, leastBreak, atLeast, oneOf, afterHeads,
 use Rattle.laws.proofs.Basics.{by-cases, by-test}
 use Rattle.laws.proofs.All.{all-has}
 use Rattle.laws.proofs.Membership.{has-getD}
+use Rattle.laws.proofs.Modes.{choice-below}
 use Rattle.laws.proofs.Times.{has-times, times-has, times-those}
 
 -- ---- a choice
 
 pub chosen-has : (o : Order) (xs : List ℕ) (y : ℕ) → 0 < length xs → has (chosenFrom o xs y .picked) xs ≡ true
-unfolding chosenFrom choice
-chosen-has o xs y h = has-getD xs (choiceOf (length xs) y .number) 0 (choice-lt (length xs) y h)
+unfolding chosenFrom
+chosen-has o xs y h = has-getD xs (choice o (length xs) y .number) 0 (choice-below o (length xs) y h)
 
 pub one-has : (o : Order) (xs : List ℕ) (y : ℕ) → 0 < length xs → has (oneOf o xs y .picked) xs ≡ true
 unfolding oneOf

@@ -24,6 +24,7 @@ use Rattle.written.specs.Sheet.{sheetOf}
 use Rattle.written.specs.Orders.{flipsEach, walksAll}
 use Rattle.written.specs.Printed.{decimal, line, answer, chosen, refusedBy, refusal, report}
 use Rattle.written.specs.Program.{afterReading, afterSheet, courseOf, said, printed, reportSize}
+use Rattle.laws.specs.Sheets.{lastLine}
 use Rattle.laws.proofs.Basics.{by-cases}
 use Rattle.laws.proofs.Reasons.{reason-below}
 use Rattle.laws.proofs.Readings.{reading-proper}
@@ -97,7 +98,7 @@ walked-length lim o f r few h =
     omega arith
 
 -- a refusal whose line is among those of a text within the limits, or of the sheet
-pub refusal-fits : (lim : Limits) (e : Fault) → lim .text + 1 < 10 ^ 20 → e .line ≤ lim .text + 4 → length (refusal e) ≤ reportSize lim
+pub refusal-fits : (lim : Limits) (e : Fault) → lim .text + 1 < 10 ^ 20 → e .line ≤ lim .text + lastLine → length (refusal e) ≤ reportSize lim
 unfolding reportSize
 refusal-fits lim e short h = let n = refusal-length e 21 (omega arith) (omega arith) in omega arith
 

@@ -32,6 +32,7 @@ use Rattle.written.specs.Program.{unbegun, unread, walked, courseOf, printed, t
 use Rattle.laws.specs.Valid.{Valid}
 use Rattle.laws.specs.Calls.{OneOfThree}
 use Rattle.laws.specs.Reasons.{namesLine, ofText, ofSheet}
+use Rattle.laws.specs.Sheets.{lastLine}
 
 -- ---- what a run leaves: r, of tables and a buffer of their full sizes
 
@@ -105,7 +106,7 @@ pub record Refused (lim : Limits) (input : List ℕ) (t : Tables) (e : Fault) (u
   pub refuses : Refuses lim input e
   -- "The line is that of the fault for 4 to 8 and 10", for 15 "with its line", and "A sheet number out of range is reason 11 with its sheet line here"
   pub text-line : namesLine (e .reason) ≡ true → 0 < e .line
-  pub sheet-line : ofSheet (e .reason) ≡ true → (1 ≤ e .line) × (e .line ≤ 4)
+  pub sheet-line : ofSheet (e .reason) ≡ true → (1 ≤ e .line) × (e .line ≤ lastLine)
   -- "else 0"
   pub no-line : namesLine (e .reason) ≡ false → ofSheet (e .reason) ≡ false → e .line ≡ 0
   -- "tables 0"

@@ -6,6 +6,7 @@ use mathlib.Core.Path.{_≡_}
 use mathlib.Core.Bool.{true, false}
 use mathlib.Core.List.{List, []}
 use lib.ListN.{length, getD}
+use Rattle.draw.specs.Xorshift.{nextOf}
 use Rattle.words.specs.Words.{stateAfter, wordCount}
 use Rattle.written.specs.declared.Counts.{Counts}
 use Rattle.written.specs.declared.Order.{Order}
@@ -52,6 +53,8 @@ pub data DrawsAt (o : Order) (f : File) : ℕ → Type 0 where
   -- 4. "on heads a choice among all its literals", or else among several at the least
   after-heads : (n k : ℕ) (m : Moment) → Comes o f n (suc k) m → isFound (m .state) ≡ false
       → DrawsAt o f (heads o (chosenFrom o (m .state .uncovered) (m .generator) .state) .next .state)
+  -- document 02: an even choice may "draw again"
+  again : (y : ℕ) → DrawsAt o f y → DrawsAt o f (nextOf y)
 
 -- how the walks end over the file that the tables hold
 abbrev pub written : Order → Counts → Tables → Outcome

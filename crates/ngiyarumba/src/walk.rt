@@ -15,6 +15,7 @@ pub extern "C" fn ngi_walk(
     flips: u32,
     walks: u32,
     bias: u32,
+    even: u32,
     terms: u32,
     clauses: u32,
     literals: u32,
@@ -32,7 +33,7 @@ pub extern "C" fn ngi_walk(
 ) -> WalkAnswer
     ensures { λ r. ⌜ leaves r
         (lentAfter names values starts «literals_table» «occurrence_starts» occurrences «true_counts» «break_counts» «uncovered_list» places)
-        ≡ told walkAnswer (walkOf narrow (order seed flips walks bias) (counts terms clauses literals uncovered)
+        ≡ told walkAnswer (walkOf narrow (order seed flips walks bias even) (counts terms clauses literals uncovered)
         (lentBefore names values starts «literals_table» «occurrence_starts» occurrences «true_counts» «break_counts» «uncovered_list» places)) ⌝ }
 {
     let o = Order {
@@ -40,6 +41,7 @@ pub extern "C" fn ngi_walk(
         flips: flips,
         walks: walks,
         bias: bias,
+        even: even,
     };
     let n = Counts {
         terms: terms,

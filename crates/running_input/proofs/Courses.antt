@@ -16,6 +16,7 @@ use Rattle.written.specs.Reading.{readText}
 use Rattle.written.specs.Reasons.{fault}
 use Rattle.written.specs.Sheet.{sheetOf}
 use Rattle.written.specs.Program.{unbegun, unread, afterReading, afterSheet, courseOf}
+use Rattle.laws.specs.Sheets.{lastLine}
 use Rattle.laws.proofs.Basics.{by-cases}
 use Rattle.laws.proofs.Sheets.{Judged, sheet-judged}
 use Rattle.running_input.specs.declared.Outset.{Outset}
@@ -37,8 +38,8 @@ module _ (lim : Limits) (input : List ℕ) where
 
   -- what is known of a run that sets out so
   abbrev pub Says : Outset → Type 0
-  Says (Long e) = (courseOf lim input ≡ unread e) × (e .line ≤ 4)
-  Says (Refused e) = (courseOf lim input ≡ unbegun (O.Refused e)) × (e .line ≤ 4)
+  Says (Long e) = (courseOf lim input ≡ unread e) × (e .line ≤ lastLine)
+  Says (Refused e) = (courseOf lim input ≡ unbegun (O.Refused e)) × (e .line ≤ lastLine)
   Says (Begins s) = (courseOf lim input ≡ afterReading (s .order) (readText lim (drop (s .at) input))) × (inRange (s .order) ≡ true) × (s .at ≤ length input)
 
   sheet-says : ltb (lim .text) (length input) ≡ false → (a : Ordered) → sheetOf input ≡ a → Judged (length input) a → Says (bySheet a)

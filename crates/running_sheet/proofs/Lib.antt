@@ -2,3 +2,4 @@
 pub mod Keys
 pub mod Lines
 pub mod Reached
+pub mod Fifth

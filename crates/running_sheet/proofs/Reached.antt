@@ -1,6 +1,6 @@
 -- The lines of a sheet taken one after another: what is left to judge makes the whole. Assumes nothing.
 use Prim.Native.Nat.{ℕ, _+_, _-_, _*_, _≤_}
-use mathlib.Core.Path.{_≡_, refl, ap, sym, _∙_}
+use mathlib.Core.Path.{_≡_, refl, ap, sym, subst, _∙_}
 use mathlib.Core.List.{List}
 use native.Mathlib.Omega.{arith}
 use lib.ListN.{length, take, drop, length-drop}
@@ -11,7 +11,8 @@ use Rattle.written.specs.declared.Ordered.{Ordered}
 use Rattle.written.specs.declared.Ordered.the-variants.{Accepted, Refused}
 use Rattle.written.specs.Reasons.{faultAt}
 use Rattle.written.specs.Orders.{Range, seeds, flipsEach, walksAll, biases, within}
-use Rattle.written.specs.Sheet.{hasForm, numberAfter, judged, sheetOf}
+use Rattle.written.specs.Sheet.{hasForm, numberAfter, judged}
+use Rattle.laws.specs.Sheets.{fourLines}
 use Rattle.laws.proofs.Basics.{by-cases}
 use Rattle.running_sheet.specs.declared.Entry.{Entry}
 use Rattle.running_sheet.specs.declared.Verdict.{Verdict}
@@ -55,10 +56,10 @@ module _ (input : List ℕ) where
   pub record Reached (k at : ℕ) (on : List ℕ → Ordered) : Type 0 where
     pub here : at ≤ length input
     pub near : at ≤ 17 * k
-    pub left : on (drop at input) ≡ sheetOf input
+    pub left : on (drop at input) ≡ fourLines input
 
   abbrev pub accepted : ℕ → ℕ → ℕ → ℕ → List ℕ → Ordered
-  accepted s f w b text = Accepted (record { order = record { seed = s; flips = f; walks = w; bias = b }; at = length input - length text })
+  accepted s f w b text = Accepted (record { order = record { seed = s; flips = f; walks = w; bias = b; even = 0 }; at = length input - length text })
 
   abbrev pub fourth : ℕ → ℕ → ℕ → List ℕ → Ordered
   fourth s f w rest = judged 4 (bytes "bias=") biases rest (accepted s f w)
@@ -70,16 +71,16 @@ module _ (input : List ℕ) where
   second s rest = judged 2 (bytes "flips=") flipsEach rest (third s)
 
   pub none-taken : Reached 0 0 (λ rest. judged 1 (bytes "seed=") seeds rest second)
-  unfolding sheetOf
+  unfolding fourLines
   none-taken = record { here = omega arith; near = omega arith; left = refl }
 
   -- the next line: refused, or taken
   module _ (k at i : ℕ) (key : List ℕ) (r : Range) (on : ℕ → List ℕ → Ordered) (m : Reached k at (λ rest. judged i key r rest on)) (rest : List ℕ)
       (p : rest ≡ drop at input) (v : Verdict) (e : v ≡ lineOf key r rest) where
-    goes : onward i on (drop at input) v ≡ sheetOf input
+    goes : onward i on (drop at input) v ≡ fourLines input
     goes = rw (e, p) (sym (judged-by i key r (drop at input) on) ∙ m .left)
 
-    pub one-refused : (a : Reason) → v ≡ Faulty a → refusedAt i v ≡ sheetOf input
+    pub one-refused : (a : Reason) → v ≡ Faulty a → refusedAt i v ≡ fourLines input
     one-refused a q = rw q (rw q at goes)
 
     pub one-taken : (a : Entry) (next : ℕ) → v ≡ Taken a → next ≡ at + a .size → length key ≤ 6 → Reached (k + 1) next (on (a .number))
@@ -91,7 +92,30 @@ module _ (input : List ℕ) where
           left = rw n (ap (on (a .number)) (sym (drop-drop (a .size) at input)) ∙ (rw q at goes));
         }
 
-  pub all-taken : (s f w b at : ℕ) → Reached 4 at (accepted s f w b) → Accepted (record { order = record { seed = s; flips = f; walks = w; bias = b }; at = at }) ≡ sheetOf input
+  pub all-taken : (s f w b at : ℕ) → Reached 4 at (accepted s f w b) → Accepted (record { order = record { seed = s; flips = f; walks = w; bias = b; even = 0 }; at = at }) ≡ fourLines input
   all-taken s f w b at m =
       let place : length input - length (drop at input) ≡ at = omega (arith, length-drop at input, m .here) in
       rw place at (m .left)
+
+  -- ---- what they come to
+
+  -- the mode is 0, and what follows them begins within the input and early
+  abbrev pub Known : Ordered → Type 0
+  Known (Refused e) = Unit {0}
+  Known (Accepted s) = (s .order .even ≡ 0) × (s .at ≤ length input) × (s .at ≤ 68)
+
+  by-line : (k at i : ℕ) (key : List ℕ) (r : Range) (on : ℕ → List ℕ → Ordered) → Reached k at (λ rest. judged i key r rest on) → length key ≤ 6
+      → ((a : Entry) → Reached (k + 1) (at + a .size) (on (a .number)) → Known (fourLines input)) → Known (fourLines input)
+  by-line k at i key r on m short next = by-verdict (lineOf key r (drop at input)) refl
+    where
+      by-verdict : (v : Verdict) → v ≡ lineOf key r (drop at input) → Known (fourLines input)
+      by-verdict (Faulty e) q = subst Known (one-refused k at i key r on m (drop at input) refl (Faulty e) q e refl) tt
+      by-verdict (Taken a) q = next a (one-taken k at i key r on m (drop at input) refl (Taken a) q a (at + a .size) refl refl short)
+
+  pub four-known : Known (fourLines input)
+  four-known =
+      by-line 0 _ 1 _ seeds _ none-taken (omega arith) λ s m₁.
+      by-line 1 _ 2 _ flipsEach _ m₁ (omega arith) λ f m₂.
+      by-line 2 _ 3 _ walksAll _ m₂ (omega arith) λ w m₃.
+      by-line 3 _ 4 _ biases _ m₃ (omega arith) λ b m₄.
+      subst Known (all-taken (s .number) (f .number) (w .number) (b .number) _ m₄) (refl, m₄ .here, omega (arith, m₄ .near))

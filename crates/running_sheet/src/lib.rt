@@ -1,8 +1,8 @@
-// The order sheet: four lines of a key and a number, judged from the top.
+// The order sheet: four lines of a key and a number, judged from the top, and a fifth that may follow them.
 ghost use mathlib.Core.Path.{_≡_};
-ghost use lib.ListN.{length, take};
-ghost use Rattle.written.specs.Lists.{same};
-ghost use Rattle.written.specs.Sheet.{sheetOf};
+ghost use Prim.Native.Nat.{_+_, _^_, _<_};
+ghost use Rattle.written.specs.Sheet.{begins, sheetOf};
+ghost use Rattle.laws.specs.Sheets.{fourLines, inMode};
 ghost use Rattle.running_sheet.specs.Lines.{range, lineOf, refusedAt};
 use written::Fault;
 use written::Order;
@@ -24,7 +24,7 @@ enum Verdict {
 
 // The bytes begin with the key.
 fn begins(rest: &[u8], key: &[u8]) -> bool
-    ensures { λ r. ⌜ r ≡ same (take (length (now (key .entry))) (now (rest .entry))) (now (key .entry)) ⌝ }
+    ensures { λ r. ⌜ r ≡ begins (now (key .entry)) (now (rest .entry)) ⌝ }
 {
     let mut i: usize = 0;
     while i < key.len() {
@@ -86,9 +86,9 @@ fn refused(i: u32, line: Verdict) -> Ordered
     }
 }
 
-// The four lines, the first faulty one named; and where the clause text begins.
-pub fn sheet(input: &[u8]) -> Ordered
-    ensures { λ r. ⌜ r ≡ sheetOf (now (input .entry)) ⌝ }
+// The four lines, the first faulty one named; and where what follows them begins.
+fn numbers(input: &[u8]) -> Ordered
+    ensures { λ r. ⌜ r ≡ fourLines (now (input .entry)) ⌝ }
 {
     let first = line(input, b"seed=", 1, 4294967295);
     let Verdict::Taken(s) = first else {
@@ -114,9 +114,50 @@ pub fn sheet(input: &[u8]) -> Ordered
         flips: f.number,
         walks: w.number,
         bias: b.number,
+        even: 0,
     };
     Ordered::Accepted(Sheet {
         order: order,
         at: (to_bias + b.size) as u32,
     })
+}
+
+// The sheet with the fifth line, of so many bytes.
+fn even_from(s: Sheet, size: u32) -> Sheet
+    requires { ⌜ s .at + size < 2 ^ 32 ⌝ }
+    ensures { λ r. ⌜ r ≡ inMode s 1 (s .at + size) ⌝ }
+{
+    let o = s.order;
+    let order = Order {
+        seed: o.seed,
+        flips: o.flips,
+        walks: o.walks,
+        bias: o.bias,
+        even: 1,
+    };
+    Sheet {
+        order: order,
+        at: s.at + size,
+    }
+}
+
+// The whole sheet: a fifth line is exactly `choice=even`, or there is none.
+pub fn sheet(input: &[u8]) -> Ordered
+    ensures { λ r. ⌜ r ≡ sheetOf (now (input .entry)) ⌝ }
+{
+    let four = numbers(input);
+    let Ordered::Accepted(s) = four else {
+        return four;
+    };
+    let rest = &input[s.at as usize..];
+    if !begins(rest, b"choice=") {
+        return Ordered::Accepted(s);
+    }
+    if !begins(rest, b"choice=even\n") {
+        return Ordered::Refused(Fault {
+            reason: Reason::SheetForm,
+            line: 5,
+        });
+    }
+    Ordered::Accepted(even_from(s, 12))
 }

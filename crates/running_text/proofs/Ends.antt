@@ -9,6 +9,7 @@ use Rattle.written.specs.Limits.{Limits}
 use Rattle.written.specs.Tables.{Tables, over}
 use Rattle.written.specs.Printed.{refusal}
 use Rattle.written.specs.Program.{Course, said, reportSize, tablesAfter, ran}
+use Rattle.laws.specs.Sheets.{lastLine}
 use Rattle.laws.proofs.Reports.{refusal-fits}
 use Rattle.pages.specs.Pages.{page, put, CanPut}
 use Rattle.running_text.specs.Running.{ended, CanRun}
@@ -29,5 +30,5 @@ pub fits : (lim : Limits) (bs b : List ℕ) → length bs ≤ reportSize lim →
 fits lim bs b short room = record { room = omega arith }
 
 -- and so does a refusal by a line of a text within the limits, or of the sheet
-pub refusal-room : (lim : Limits) (t : Tables) (b : List ℕ) → CanRun lim t b → (e : Fault) → lim .text + 1 < 10 ^ 20 → e .line ≤ lim .text + 4 → CanPut (refusal e) (page 0 b)
+pub refusal-room : (lim : Limits) (t : Tables) (b : List ℕ) → CanRun lim t b → (e : Fault) → lim .text + 1 < 10 ^ 20 → e .line ≤ lim .text + lastLine → CanPut (refusal e) (page 0 b)
 refusal-room lim t b can e short line = fits lim (refusal e) b (refusal-fits lim e short line) (can .room)

@@ -65,7 +65,7 @@ pub ngi-read-settled : Public ngi-read.ended (λ M. ngi-read.clauses)
 ngi-read-settled M 𝓤 H A mem run κs a g = record { asks-nothing = refl; one-outcome = λ x y. both 𝓤 (λ p q. let e = meet p q in same (the-answer e) (ap (λ l. (tt, ten (l .tables) tt)) e)) }
 
 pub ngi-walk-settled : Public ngi-walk.ended (λ M. ngi-walk.clauses)
-ngi-walk-settled M 𝓤 H A mem run κs a g = record { asks-nothing = refl; one-outcome = λ x y. both 𝓤 (λ p q. let e = meet p q in same (the-answer e) (ap (λ l. (tt, (tt, (tt, (tt, (tt, (tt, (tt, (tt, five (l .tables) tt))))))))) e)) }
+ngi-walk-settled M 𝓤 H A mem run κs a g = record { asks-nothing = refl; one-outcome = λ x y. both 𝓤 (λ p q. let e = meet p q in same (the-answer e) (ap (λ l. (tt, (tt, (tt, (tt, (tt, (tt, (tt, (tt, (tt, five (l .tables) tt)))))))))) e)) }
 
 pub ngi-flip-settled : Public ngi-flip.ended (λ M. ngi-flip.clauses)
 ngi-flip-settled M 𝓤 H A mem run κs a g = record { asks-nothing = refl; one-outcome = λ x y. both 𝓤 (λ p q. let e = meet p q in same (the-answer e) (ap (λ l. (tt, (tt, (tt, (tt, (tt, five (l .tables) tt)))))) e)) }

@@ -28,7 +28,10 @@ fn in_range(order: Order) -> bool
     if order.walks > 1000 {
         return false;
     }
-    order.bias <= 1000
+    if order.bias > 1000 {
+        return false;
+    }
+    order.even <= 1
 }
 
 // The tests, in their order: 1, 11, 12.

@@ -7,17 +7,16 @@ use lib.ListN.{length, getD}
 use borrow.Author.Tests.{eq-eqb, ne-eqb, lt-ltb, le-ltb}
 use Rattle.draw.specs.declared.Drawn.{Drawn}
 use Rattle.draw.specs.Draw.{headsOf}
-use Rattle.draw.proofs.Laws.{choice-lt}
 use Rattle.written.specs.declared.Order.{Order}
 use Rattle.written.specs.Drawing.{Pick, choice, heads, entryAt, chosenFrom}
 use Rattle.written.specs.Walk.{oneOf, afterHeads}
+use Rattle.laws.proofs.Modes.{choice-below}
 use Rattle.walking_choice.specs.Choosing.{pick, leastBy, tiesBy, literalBy}
 
 -- the entry that a choice gives stands in the list, and is the one that is written
 module _ (o : Order) (xs : List ℕ) (y : ℕ) {d : Drawn} (e : d ≡ choice o (length xs) y) where
   pub chosen-stands : 0 < length xs → d .number < length xs
-  unfolding choice
-  chosen-stands s = rw e (choice-lt (length xs) y s)
+  chosen-stands s = rw e (choice-below o (length xs) y s)
 
   pub chosen-is : entryAt xs d ≡ chosenFrom o xs y
   unfolding chosenFrom

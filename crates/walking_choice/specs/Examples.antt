@@ -1,9 +1,11 @@
--- The picks that request 3 lists as one table under one statement, which antt computes: in the clause 0 2 4 6, with bias 0. Assumes nothing.
+-- The picks that request 3 lists, and some of them by even choices, as one table under one statement, which antt computes: in the clause 0 2 4 6, with bias 0.
+-- Assumes nothing.
 use Prim.Native.Nat.{ℕ}
 use mathlib.Core.Path.{_≡_, refl}
 use mathlib.Core.List.{List, [], _∷_, map}
 use Rattle.draw.specs.Xorshift.{nextOf, leftStep, rightStep}
 use Rattle.draw.specs.Draw.{choiceOf, headsOf}
+use Rattle.draw.specs.Even.{evenFrom, evenOf}
 use Rattle.written.specs.declared.Order.{Order}
 use Rattle.written.specs.Drawing.{Pick, choice, heads, chosenFrom}
 use Rattle.written.specs.Walk.{oneOf, afterHeads}
@@ -13,25 +15,31 @@ pub record Example : Type 0 where
   pub asked : Pick
   pub told : Pick
 
--- four break counts and a state, then the literal and the state afterwards
-abbrev pub row : ℕ → ℕ → ℕ → ℕ → ℕ → ℕ → ℕ → Example
-row a b c d y l z =
-    let o : Order = record { seed = 1; flips = 1; walks = 1; bias = 0 } in
+-- the mode, four break counts and a state, then the literal and the state afterwards
+abbrev pub row : ℕ → ℕ → ℕ → ℕ → ℕ → ℕ → ℕ → ℕ → Example
+row e a b c d y l z =
+    let o : Order = record { seed = 1; flips = 1; walks = 1; bias = 0; even = e } in
     record { asked = literalBy o (breakIn (a ∷ b ∷ c ∷ d ∷ [])) (0 ∷ 2 ∷ 4 ∷ 6 ∷ []) y; told = pick l z }
 
 abbrev pub table : List Example
 table =
     -- one breaks nothing: no draw
-    row 0 3 3 3 1 0 1
+    row 0 0 3 3 3 1 0 1
     -- two break nothing: one draw, odd and even
-    ∷ row 1 0 1 0 1 6 270369
-    ∷ row 1 0 1 0 2 2 540738
+    ∷ row 0 1 0 1 0 1 6 270369
+    ∷ row 0 1 0 1 0 2 2 540738
     -- all at 1: tails, and a choice among four
-    ∷ row 1 1 1 1 1 2 67634689
+    ∷ row 0 1 1 1 1 1 2 67634689
     -- one at 1: tails alone
-    ∷ row 2 1 2 2 1 2 270369
+    ∷ row 0 2 1 2 2 1 2 270369
+    -- by even choices: no draw for one, the draw less 1 among two and four, and tails as before
+    ∷ row 1 0 3 3 3 1 0 1
+    ∷ row 1 1 0 1 0 1 2 270369
+    ∷ row 1 1 0 1 0 2 6 540738
+    ∷ row 1 1 1 1 1 1 0 67634689
+    ∷ row 1 2 1 2 2 1 2 270369
     ∷ []
 
 pub shown : map (λ e. e .asked) table ≡ map (λ e. e .told) table
-unfolding literalBy breakIn leastBy tiesBy oneOf afterHeads heads chosenFrom choice choiceOf headsOf nextOf leftStep rightStep
+unfolding literalBy breakIn leastBy tiesBy oneOf afterHeads heads chosenFrom choice choiceOf evenOf evenFrom headsOf nextOf leftStep rightStep
 shown = refl

@@ -23,10 +23,13 @@ struct Least {
     first: u16,
 }
 
-// Each choice of a walk is made here.
+// Each choice of a walk is made here, in the mode of its order.
 fn choice(order: Order, m: u32, g: Generator) -> Drawn
     ensures { λ r. ⌜ r ≡ choice order m (g .state) ⌝ }
 {
+    if order.even == 1 {
+        return g.even(m);
+    }
     g.choice(m)
 }
 

@@ -7,8 +7,6 @@ use native.Mathlib.Omega.{arith}
 use lib.ListN.{length, getD}
 use lib.Seq.{getD-take, length-take-le}
 use borrow.Author.Tests.{ltb-true}
-use Rattle.draw.specs.Draw.{choiceOf}
-use Rattle.draw.proofs.Laws.{choice-lt}
 use Rattle.words.specs.Words.{turnAt}
 use Rattle.written.specs.declared.Order.{Order}
 use Rattle.written.specs.Lists.{has}
@@ -22,6 +20,7 @@ use Rattle.laws.proofs.Membership.{has-getD}
 use Rattle.laws.proofs.Turning.{turned-length, turned-bits}
 use Rattle.laws.proofs.Values.{turn-over}
 use Rattle.laws.proofs.Sizes.{clause-some, clause-below}
+use Rattle.laws.proofs.Modes.{choice-below}
 use Rattle.laws.proofs.Picks.{literal-has, has-below}
 use Rattle.machine.specs.Moving.{Fixed, Moving, flipTerm}
 use Rattle.machine.proofs.Law.{flip-can, flip-walking, flip-kept}
@@ -71,10 +70,10 @@ module _ (top full : ℕ) (o : Order) (x : Fixed) (base : Moving) (m : Moment) (
   clause-same = ap₂ (chosenFrom o) (f .tables .list) (f .generator)
 
   c-below : c < length (m .state .file .clauses)
-  unfolding clauseFor chosenFrom choice
+  unfolding clauseFor chosenFrom
   c-below =
-      let j : ℕ = choiceOf (length (uncoveredList v)) (v .generator) .number in
-      let lj : j < uncoveredNumber v = omega (arith, many, choice-lt (length (uncoveredList v)) (v .generator) any) in
+      let j : ℕ = choice o (length (uncoveredList v)) (v .generator) .number in
+      let lj : j < uncoveredNumber v = omega (arith, many, choice-below o (length (uncoveredList v)) (v .generator) any) in
       rw (getD-take (uncoveredNumber v) (v .tables .tallies .uncovered .list) j 0 lj) (f .tables .places .within j lj)
 
   clause-is : clauseAt x (clauseFor o v) ≡ ls

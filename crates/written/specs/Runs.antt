@@ -43,6 +43,7 @@ table =
     -- a refused sheet: "nothing begun"
     ∷ (running "seed=0\nflips=10\nwalks=1\nbias=400\na b\n" given buffer tells leaves "result=refused\nreason=11\nline=1\n" given)
     ∷ (running "seed=1\nflips=10\nwalks=1\n" given buffer tells leaves "result=refused\nreason=10\nline=4\n" given)
+    ∷ (running "seed=1\nflips=10\nwalks=1\nbias=400\nchoice=a\n" given buffer tells leaves "result=refused\nreason=10\nline=5\n" given)
     -- a refused text: tables 0
     ∷ (running "seed=1\nflips=10\nwalks=1\nbias=400\na b\n~a\tb\n" given buffer tells leaves "result=refused\nreason=4\nline=2\n" zero)
     ∷ (running "seed=1\nflips=10\nwalks=1\nbias=400\n" given buffer tells leaves "result=refused\nreason=9\nline=0\n" zero)
@@ -60,19 +61,25 @@ shown = refl
 abbrev pub sheet : String → SheetValues
 sheet input = sheetValues (sheetOf (bytes input))
 
-abbrev pub taken : ℕ → ℕ → ℕ → ℕ → ℕ → SheetValues
-taken s f w b at = record { result = 1; reason = 0; line = 0; sheet = record { order = record { seed = s; flips = f; walks = w; bias = b }; at = at } }
+abbrev pub taken : ℕ → ℕ → ℕ → ℕ → ℕ → ℕ → SheetValues
+taken s f w b e at =
+    record { result = 1; reason = 0; line = 0; sheet = record { order = record { seed = s; flips = f; walks = w; bias = b; even = e }; at = at } }
 
 abbrev pub zeros : ℕ → ℕ → SheetValues
-zeros r l = record { result = 0; reason = r; line = l; sheet = record { order = record { seed = 0; flips = 0; walks = 0; bias = 0 }; at = 0 } }
+zeros r l =
+    record { result = 0; reason = r; line = l; sheet = record { order = record { seed = 0; flips = 0; walks = 0; bias = 0; even = 0 }; at = 0 } }
 
 abbrev pub sheets : List (Example SheetValues)
 sheets =
-    (sheet "seed=1\nflips=10\nwalks=1\nbias=400\na b\n" tells taken 1 10 1 400 33)
-    ∷ (sheet "seed=4294967295\nflips=0\nwalks=1000\nbias=0\n" tells taken 4294967295 0 1000 0 42)
+    (sheet "seed=1\nflips=10\nwalks=1\nbias=400\na b\n" tells taken 1 10 1 400 0 33)
+    ∷ (sheet "seed=4294967295\nflips=0\nwalks=1000\nbias=0\n" tells taken 4294967295 0 1000 0 0 42)
     ∷ (sheet "seed=1\nflips=100001\nwalks=x\nbias=400\n" tells zeros 11 2)
     ∷ (sheet "seed=1\nflips=10\nwalks=x\nbias=4000\n" tells zeros 10 3)
     ∷ (sheet "seed=1\nflips=10\nwalks=1\nbias=400" tells zeros 10 4)
+    ∷ (sheet "seed=1\nflips=10\nwalks=1\nbias=400\nchoice=even\na b\n" tells taken 1 10 1 400 1 45)
+    ∷ (sheet "seed=1\nflips=10\nwalks=1\nbias=400\nchoice\n" tells taken 1 10 1 400 0 33)
+    ∷ (sheet "seed=1\nflips=10\nwalks=1\nbias=400\nchoice=" tells zeros 10 5)
+    ∷ (sheet "seed=1\nflips=10\nwalks=1\nbias=400\nchoice=even \n" tells zeros 10 5)
     ∷ []
 
 pub sheets-shown : Tells sheets
