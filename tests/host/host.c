@@ -6,13 +6,14 @@
  *   1 lend    the lengths of the ten tables, then the entries of each    none: the tables are kept for the calls that follow
  *   2 flip    the list's length, its entries, four counts                status, the six numbers of ngi_flip_answer, list, ten tables
  *   3 read    the text's length, its bytes                               status, the seven numbers of ngi_read_answer, text, ten tables
- *   4 walk    seed, flips, walks, bias, four counts                      status, the eight numbers of ngi_walk_answer, ten tables
+ *   4 walk    seed, flips, walks, bias, even, four counts                status, the eight numbers of ngi_walk_answer, ten tables
  *   5 draw    a state                                                    the three numbers of ngi_drawn
  *   6 choice  a state, how many to choose among                          the same
  *   7 heads   a state, a bias                                            the same
  *   8 run     the lengths of input and output, then the bytes of each    status, the three numbers of ngi_run_answer, input, output, ten tables
  *   9 follow  0 for the reader or 1 for its cursor, the lengths of text  status, a row of seven numbers for each step, text
  *             and script, place, line, then the bytes of each
+ *  10 even    a state, how many to choose among                          the three numbers of ngi_drawn
  *
  * A script's byte is 0 to pass and 1 to tell the next item. The place and the line where following begins, and the rows, are 64 bits wide.
  *
@@ -27,7 +28,7 @@
 
 #include "ngiyarumba.h"
 
-enum { LEND = 1, FLIP = 2, READ = 3, WALK = 4, DRAW = 5, CHOICE = 6, HEADS = 7, RUN = 8, FOLLOW = 9 };
+enum { LEND = 1, FLIP = 2, READ = 3, WALK = 4, DRAW = 5, CHOICE = 6, HEADS = 7, RUN = 8, FOLLOW = 9, EVEN = 10 };
 enum { TABLES = 10, GUARD = 64 };
 enum { INPUT_CUT = 1, OUTPUT_CLOSED = 2, NO_MEMORY = 3, UNKNOWN_OPCODE = 4 };
 
@@ -213,11 +214,11 @@ static void read_text(void)
 
 static void walk(void)
 {
-    uint32_t order[4], counts[4];
+    uint32_t order[5], counts[4];
     take(order, sizeof order);
     take(counts, sizeof counts);
     ngi_walk_answer answer =
-        ngi_walk(order[0], order[1], order[2], order[3], counts[0], counts[1], counts[2], counts[3], LENT_TABLES);
+        ngi_walk(order[0], order[1], order[2], order[3], order[4], counts[0], counts[1], counts[2], counts[3], LENT_TABLES);
     give_answer(&answer, sizeof answer, nothing);
 }
 
@@ -292,6 +293,12 @@ static void choice(void)
     give_drawn(ngi_choice(state, take_number()));
 }
 
+static void choice_even(void)
+{
+    uint32_t state = take_number();
+    give_drawn(ngi_choice_even(state, take_number()));
+}
+
 static void heads(void)
 {
     uint32_t state = take_number();
@@ -329,6 +336,9 @@ int main(void)
             break;
         case FOLLOW:
             follow();
+            break;
+        case EVEN:
+            choice_even();
             break;
         default:
             exit(UNKNOWN_OPCODE);

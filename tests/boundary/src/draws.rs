@@ -1,6 +1,6 @@
 //! Draws, choices and heads asked of both sides.
 
-use oracle::draw::{choice, draw, heads, Drawn};
+use oracle::draw::{choice, choice_even, draw, heads, Drawn};
 
 use crate::host::{Fault, Host};
 
@@ -24,6 +24,12 @@ impl Draws {
         let called = self.host.choice(state, among);
         let asked = format!("a choice among {among} from {state}");
         agreed(asked, choice(state, among), called)
+    }
+
+    pub fn choice_even(&mut self, state: u64, among: u64) -> Drawn {
+        let called = self.host.choice_even(state, among);
+        let asked = format!("an even choice among {among} from {state}");
+        agreed(asked, choice_even(state, among), called)
     }
 
     pub fn heads(&mut self, state: u64, bias: u64) -> Drawn {

@@ -30,6 +30,7 @@ const CHOICE: u32 = 6;
 const HEADS: u32 = 7;
 const RUN: u32 = 8;
 const FOLLOW: u32 = 9;
+const EVEN: u32 = 10;
 
 /// Bytes of a flip list's entry, of a text's, and of a number of a reader's row.
 const TERM_WIDTH: usize = 2;
@@ -168,6 +169,11 @@ impl Host {
     /// `ngi_choice`.
     pub fn choice(&mut self, state: u64, among: u64) -> Result<Drawn, Fault> {
         self.drawn(CHOICE, &[state, among])
+    }
+
+    /// `ngi_choice_even`.
+    pub fn choice_even(&mut self, state: u64, among: u64) -> Result<Drawn, Fault> {
+        self.drawn(EVEN, &[state, among])
     }
 
     /// `ngi_heads`.

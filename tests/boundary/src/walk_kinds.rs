@@ -33,6 +33,8 @@ kinds! {
             Bias400,
             Bias1000,
             AnotherBias,
+            ByTheRemainder,
+            Evenly,
         }
         ENDS {
             GaveUpAfterOneWalk,
@@ -100,6 +102,10 @@ fn note_order(order: &Order, met: &mut Kinds) {
         400 => Bias400,
         THOUSANDTHS => Bias1000,
         _ => AnotherBias,
+    });
+    met.note(match order.even {
+        0 => ByTheRemainder,
+        _ => Evenly,
     });
 }
 

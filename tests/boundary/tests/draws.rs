@@ -1,7 +1,7 @@
-//! Draws, choices and heads asked for alone.
+//! Draws, choices in both modes and heads asked for alone.
 
 use boundary::{Draws, Tally};
-use oracle::draw::Drawn;
+use oracle::draw::{draws_from, Drawn};
 use oracle::generate::{draw_case, DrawCase, Random};
 use oracle::reasons::{NONE, OUT_OF_RANGE};
 
@@ -53,6 +53,7 @@ fn state_0_is_reason_11() {
     assert_eq!(draws.draw(0), refused(0));
     for number in [0, 1, 3, 400, 1_000, 1_001, LAST] {
         assert_eq!(draws.choice(0, number), refused(0));
+        assert_eq!(draws.choice_even(0, number), refused(0));
         assert_eq!(draws.heads(0, number), refused(0));
     }
 }
@@ -62,6 +63,7 @@ fn a_choice_among_0_is_reason_11_and_among_any_other_number_is_not() {
     let mut draws = Draws::start();
     for state in STATES {
         assert_eq!(draws.choice(state, 0), refused(state));
+        assert_eq!(draws.choice_even(state, 0), refused(state));
         let next = draws.draw(state).number;
         assert_eq!(draws.choice(state, 1), drawn(0, next));
         for among in [2, 3, 255, 256, 8_192, 65_535, 65_536, 1 << 31, LAST] {
@@ -71,6 +73,44 @@ fn a_choice_among_0_is_reason_11_and_among_any_other_number_is_not() {
             draws.choice(state, among);
         }
     }
+}
+
+/// The state, the number chosen among, the choice, and the state after as many draws.
+const EVEN: [(u64, u64, u64, u64, usize); 8] = [
+    (1, 3, 2, 270_369, 1),
+    (270_369, 3, 0, 67_634_689, 1),
+    (1, 1, 0, 270_369, 1),
+    (1_584_200_935, 2, 0, 253_983, 2),
+    (1_584_200_935, 3, 2, LAST, 1),
+    (1_236_431_772, 7, 6, LAST - 3, 1),
+    (3_137_861_301, 7, 5, 761_949, 2),
+    (8_368, 2_147_483_649, 1_264_041_421, 3_411_525_071, 8),
+];
+
+#[test]
+fn even_choices_are_those_that_request_5_lists() {
+    let mut draws = Draws::start();
+    for (state, among, number, after, times) in EVEN {
+        assert_eq!(draws.choice_even(state, among), drawn(number, after));
+        let last = draws_from(state as u32).nth(times - 1);
+        assert_eq!(last.map(u64::from), Some(after));
+    }
+    assert_eq!(draws.choice_even(0, 3), refused(0));
+    assert_eq!(draws.choice_even(7, 0), refused(7));
+}
+
+/// Each draw of a choice among 2^31 + 1 is taken at once about every second time.
+#[test]
+fn an_even_choice_takes_one_to_eight_draws() {
+    let mut draws = Draws::start();
+    let mut met = Tally::default();
+    for state in draws_from(1).take(6_000) {
+        let after = draws.choice_even(state.into(), (1 << 31) + 1).state;
+        let drawn = draws_from(state).position(|draw| u64::from(draw) == after);
+        met.note(drawn.expect("it is drawn") + 1);
+    }
+    met.expect((1..=8).map(|times| (times, 10)));
+    assert_eq!(met.total(), (1..=8).map(|times| met.times(times)).sum());
 }
 
 #[test]
@@ -120,11 +160,12 @@ fn twenty_thousand_random_draws_are_those_of_the_independent_program() {
         let DrawCase { state, among, bias } = draw_case(&mut Random::new(seed));
         met.note(("draw", draws.draw(state).reason));
         met.note(("choice", draws.choice(state, among).reason));
+        met.note(("even", draws.choice_even(state, among).reason));
         let heads = draws.heads(state, bias);
         met.note(("heads", heads.reason));
         met.note(("heads are", heads.number));
     }
-    met.expect(["draw", "choice", "heads"].map(|call| ((call, NONE), 10_000)));
-    met.expect(["draw", "choice", "heads"].map(|call| ((call, OUT_OF_RANGE), 2_000)));
+    met.expect(["draw", "choice", "even", "heads"].map(|call| ((call, NONE), 10_000)));
+    met.expect(["draw", "choice", "even", "heads"].map(|call| ((call, OUT_OF_RANGE), 2_000)));
     met.expect([0, 1].map(|number| (("heads are", number), 4_000)));
 }

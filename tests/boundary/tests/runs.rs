@@ -9,7 +9,7 @@ use oracle::reasons::{BLANK_LINE, OUT_OF_RANGE, SHEET_FORM, TEXT_TOO_LONG};
 use oracle::Order;
 
 /// The most inputs of one kind.
-const MOST: u64 = 2_600;
+const MOST: u64 = 3_200;
 
 fn inputs_of(kind: InputKind) -> u64 {
     match kind {
@@ -44,6 +44,7 @@ fn ten_thousand_inputs_of_every_kind_are_run_as_the_independent_program_runs_the
     let reasons = (TEXT_TOO_LONG..=OUT_OF_RANGE).chain([BLANK_LINE]);
     met.expect(reasons.map(|reason| (Refused(reason), 10)));
     met.expect((1..=4).map(|line| (SheetLine(SHEET_FORM, line), 500)));
+    met.expect([(SheetLine(SHEET_FORM, 5), 150)]);
     met.expect((1..=4).map(|line| (SheetLine(OUT_OF_RANGE, line), 20)));
     met.expect([(NoneChosen, 5), (SomeChosen, 1_000)]);
     met.expect([(OneTerm, 30), (SomeTerms, 1_000), (HundredsOfTerms, 100)]);

@@ -4,6 +4,7 @@ use boundary::texts::{first_names, negated, one_line, unit_lines};
 use boundary::walk_kinds::{walk_and_note, Kinds, Met::*};
 use boundary::{for_each_file, full_tables, holding, order_for, Sides, Tally, NARROW};
 use oracle::generate::*;
+use oracle::order::MODES;
 use oracle::Order;
 
 const FOUND: u64 = 1;
@@ -52,7 +53,9 @@ fn compare_some_orders(sides: &mut Sides, random: &mut Random, met: &mut Kinds) 
     let kinds = &OrderKind::IN_RANGE[..4];
     for _ in 0..4 {
         let order = order_of(random.pick(kinds), random);
-        walk_and_note(sides, &order, met);
+        for even in MODES {
+            walk_and_note(sides, &Order { even, ..order }, met);
+        }
     }
 }
 
@@ -65,7 +68,7 @@ fn walks_on_files_that_meet_one_limit_end_as_the_independent_program_ends_them()
         TextKind::ClausesAtLimit,
         TextKind::LiteralsAtLimit,
     ];
-    for seed in 0..8 {
+    for seed in 0..12 {
         for kind in kinds {
             let random = &mut Random::new(seed);
             let text = clause_text_of(kind, &NARROW, random);
@@ -73,8 +76,8 @@ fn walks_on_files_that_meet_one_limit_end_as_the_independent_program_ends_them()
             compare_some_orders(&mut sides, random, &mut met);
         }
     }
-    met.expect([(Walk, 96), (HeadsInALongerClause, 15)]);
-    met.expect([(TailsAndSeveralAtTheLeast, 8)]);
+    met.expect([(ByTheRemainder, 144), (Evenly, 144)]);
+    met.expect([(HeadsInALongerClause, 15), (TailsAndSeveralAtTheLeast, 8)]);
 }
 
 #[test]
@@ -83,7 +86,7 @@ fn walks_on_files_that_meet_every_limit_end_as_the_independent_program_ends_them
     for_each_file(0..8, full_tables, |sides, random| {
         compare_some_orders(sides, random, &mut met);
     });
-    met.expect([(Walk, 32), (OneBreaksNothing, 50)]);
+    met.expect([(ByTheRemainder, 32), (Evenly, 32), (OneBreaksNothing, 50)]);
 }
 
 /// One term alone, so that the list, the places and a break count reach their highest numbers; from seed 1 it starts at 1.

@@ -61,6 +61,30 @@ fn two_clauses_start_with_one_uncovered_and_are_found_by_one_flip() {
     begins(&sides.tables.uncovered, &[0, 0]);
 }
 
+/// Of two clauses that are uncovered at the start each mode picks another.
+#[test]
+fn one_order_in_both_modes_ends_as_request_5_says() {
+    let mut walks = Walks::start();
+    let text = "a b\nc a\na ~c\n~c ~a\n~b c\n";
+    for (even, flips) in [(0, 6), (1, 2)] {
+        let order = Order {
+            seed: 38,
+            even,
+            ..order_for(6, 1, 500)
+        };
+        walks.ends(text, order, [FOUND, 1, flips]);
+    }
+    for (even, values) in [(0, 1), (1, 2)] {
+        let order = Order {
+            seed: 3_764_646_662,
+            even,
+            ..order_for(1, 1, 400)
+        };
+        let sides = walks.ends("~a\n~b\n", order, [GAVE_UP, 1, 1]);
+        begins(&sides.tables.values, &[values, 0]);
+    }
+}
+
 #[test]
 fn the_other_examples_of_the_document() {
     let mut walks = Walks::start();

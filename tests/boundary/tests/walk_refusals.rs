@@ -9,7 +9,7 @@ use oracle::{Counts, Order};
 const FILES: u64 = 12;
 const LAST: u64 = u32::MAX as u64;
 
-/// The usual order with one of its four numbers changed.
+/// The usual order with one of its numbers changed.
 fn changed(place: usize, number: u64) -> Order {
     let mut order = ORDER;
     let numbers = [
@@ -17,13 +17,14 @@ fn changed(place: usize, number: u64) -> Order {
         &mut order.flips,
         &mut order.walks,
         &mut order.bias,
+        &mut order.even,
     ];
     *numbers[place] = number;
     order
 }
 
-/// An order for each of these seeds, flips, walks and biases.
-fn orders_with(numbers: [&[u64]; 4]) -> Vec<Order> {
+/// An order for each of these seeds, flips, walks, biases and modes.
+fn orders_with(numbers: [&[u64]; 5]) -> Vec<Order> {
     let places = numbers.into_iter().enumerate();
     let orders = |(place, numbers): (usize, &[u64])| -> Vec<Order> {
         let order = |number: &u64| changed(place, *number);
@@ -39,6 +40,7 @@ fn orders_with_one_number_out() -> Vec<Order> {
         &[100_001, 1 << 17, (1 << 31) + 10, LAST],
         &[0, 1_001, (1 << 16) + 1, (1 << 31) + 1, LAST],
         &[1_001, (1 << 16) + 400, (1 << 31) + 400, LAST],
+        &[2, 3, (1 << 8) + 1, 1 << 16, (1 << 31) + 1, LAST],
     ])
 }
 
@@ -49,6 +51,7 @@ fn orders_at_the_ends() -> Vec<Order> {
         &[0, 1 << 16, 100_000],
         &[1, 1 << 8, 1_000],
         &[0, 1 << 8, 1_000],
+        &[0, 1],
     ])
 }
 
@@ -73,6 +76,7 @@ fn each_number_at_an_end_of_its_range_is_walked_by() {
         flips: 100_000,
         walks: 1_000,
         bias: 1_000,
+        even: 1,
     };
     for order in orders_at_the_ends().into_iter().chain([highest]) {
         assert_eq!(sides.walk(&order).reason, NONE);
@@ -86,6 +90,7 @@ fn several_numbers_out_of_their_ranges_are_reason_11() {
         flips: LAST,
         walks: 0,
         bias: LAST,
+        even: LAST,
     };
     for_each_file(0..FILES, agreeing, |sides, random| {
         for _ in 0..10 {

@@ -6,6 +6,8 @@ use boundary::walk_kinds::{walk_and_note, Kinds, Met, Met::*};
 use boundary::{agreeing, for_each_file, holding, Lent, Sides};
 use oracle::generate::lines::{random_lines, write};
 use oracle::generate::*;
+use oracle::order::MODES;
+use oracle::Order;
 
 const FILES: u64 = 2_000;
 const ORDERS_ON_EACH: u64 = 4;
@@ -15,19 +17,26 @@ fn compare_files(seeds: &[u64]) -> Kinds {
     let mut met = Kinds::default();
     for_each_file(seeds.iter().copied(), agreeing, |sides, random| {
         for _ in 0..ORDERS_ON_EACH {
-            walk_and_note(sides, &order_in_range(random), &mut met);
+            let order = order_in_range(random);
+            for even in MODES {
+                walk_and_note(sides, &Order { even, ..order }, &mut met);
+            }
         }
     });
     met
 }
 
 #[test]
-fn eight_thousand_random_walks_end_as_the_independent_program_ends_them() {
+fn eight_thousand_random_walks_in_each_mode_end_as_the_independent_program_ends_them() {
     let met = share_out(FILES, compare_files);
-    met.expect([(Walk, 8_000), (TermInNoClause, 1_000)]);
-    met.expect(Met::ORDERS.map(|kind| (kind, 700)));
-    met.expect(Met::ENDS.map(|kind| (kind, 100)));
-    met.expect(Met::STEPS.map(|kind| (kind, 7_000)));
+    met.expect([
+        (ByTheRemainder, 8_000),
+        (Evenly, 8_000),
+        (TermInNoClause, 1_000),
+    ]);
+    met.expect(Met::ORDERS.map(|kind| (kind, 1_400)));
+    met.expect(Met::ENDS.map(|kind| (kind, 200)));
+    met.expect(Met::STEPS.map(|kind| (kind, 14_000)));
 }
 
 /// A file of so many terms, all of them known from a first line that is dropped, so that some may stand in no clause.

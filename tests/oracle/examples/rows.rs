@@ -3,8 +3,11 @@
 
 use std::fmt::Display;
 
+use oracle::draw::{choice, choice_even, heads};
 use oracle::flips::flip;
-use oracle::generate::{flip_case, read_case, reader_case, run_case, walk_case, Random};
+use oracle::generate::{
+    draw_case, flip_case, read_case, reader_case, run_case, walk_case, DrawCase, Random,
+};
 use oracle::reader::ReaderStep;
 use oracle::reading::read;
 use oracle::walk::walk;
@@ -37,11 +40,12 @@ fn main() {
     let mut random = Random::new(seed);
     let mut printed = 0;
     while printed < count {
-        let row = match printed % 5 {
+        let row = match printed % 6 {
             0 => reading(&mut random),
             1 => walking(&mut random),
             2 => flipping(&mut random),
             3 => running(&mut random),
+            4 => drawing(&mut random),
             _ => scanning(&mut random),
         };
         if let Some(row) = row {
@@ -112,6 +116,22 @@ fn running(random: &mut Random) -> Option<String> {
         spaced(&[told.result, told.reason, told.length]),
         tables(&after),
         list(&out),
+    ))
+}
+
+/// Choices in both modes and heads, each asked for alone.
+fn drawing(random: &mut Random) -> Option<String> {
+    let DrawCase { state, among, bias } = draw_case(random);
+    let told = [
+        choice(state, among),
+        choice_even(state, among),
+        heads(state, bias),
+    ];
+    let numbers = told.map(|drawn| [drawn.reason, drawn.number, drawn.state]);
+    Some(format!(
+        "(drawing {}) tells (stepped {})",
+        spaced(&[state, among, bias]),
+        list(&numbers.concat()),
     ))
 }
 

@@ -1,7 +1,10 @@
-//! Marsaglia's 32-bit xorshift, choosing and heads.
+//! Marsaglia's 32-bit xorshift, choosing in both modes and heads.
 
 use crate::order::{BIASES, SEEDS, THOUSANDTHS};
 use crate::reasons::{NONE, OUT_OF_RANGE};
+
+/// Of an even choice.
+const MOST_DRAWS: u64 = 8;
 
 /// What a draw, a choice or heads gives when it is asked for alone.
 #[derive(Clone, Copy, Debug, PartialEq, Eq)]
@@ -27,6 +30,19 @@ impl Generator {
     /// "A choice among m is the draw's remainder by m, counted from 0."
     pub fn choice(&mut self, among: usize) -> usize {
         (u64::from(self.draw()) % among as u64) as usize
+    }
+
+    /// "otherwise draw again, at most eight draws in all, and then take the remainder of the eighth less 1 anyway"
+    pub fn even_choice(&mut self, among: u64) -> u64 {
+        let runs = u64::from(u32::MAX) / among;
+        let mut place = 0;
+        for _ in 0..MOST_DRAWS {
+            place = u64::from(self.draw()) - 1;
+            if place < among * runs {
+                break;
+            }
+        }
+        place % among
     }
 
     /// "Heads means that the draw's remainder by 1,000 is below the bias."
@@ -59,6 +75,22 @@ pub fn choice(state: u64, among: u64) -> Drawn {
     drawn_alone(state, among != 0, |draw| draw % among)
 }
 
+/// An even choice asked for alone.
+pub fn choice_even(state: u64, among: u64) -> Drawn {
+    if among == 0 || !SEEDS.contains(&state) {
+        return refused(state);
+    }
+    let mut generator = Generator {
+        state: state as u32,
+    };
+    let number = generator.even_choice(among);
+    Drawn {
+        reason: NONE,
+        number,
+        state: u64::from(generator.state),
+    }
+}
+
 /// Heads asked for alone; the number is 1 for heads and 0 for tails.
 pub fn heads(state: u64, bias: u64) -> Drawn {
     let is_heads = |draw: u64| u64::from(draw % THOUSANDTHS < bias);
@@ -66,13 +98,17 @@ pub fn heads(state: u64, bias: u64) -> Drawn {
 }
 
 /// Out of range, "the number is then 0 and the state stays".
+fn refused(state: u64) -> Drawn {
+    Drawn {
+        reason: OUT_OF_RANGE,
+        number: 0,
+        state,
+    }
+}
+
 fn drawn_alone(state: u64, in_range: bool, number_of: impl Fn(u64) -> u64) -> Drawn {
     if !in_range || !SEEDS.contains(&state) {
-        return Drawn {
-            reason: OUT_OF_RANGE,
-            number: 0,
-            state,
-        };
+        return refused(state);
     }
     let draw = u64::from(drawn_from(state as u32));
     Drawn {

@@ -1,4 +1,4 @@
-//! The four numbers of an order and their ranges.
+//! The numbers of an order and their ranges.
 
 use std::ops::RangeInclusive;
 
@@ -8,6 +8,8 @@ pub const WALKS: RangeInclusive<u64> = 1..=1_000;
 /// A bias is given in thousandths.
 pub const THOUSANDTHS: u64 = 1_000;
 pub const BIASES: RangeInclusive<u64> = 0..=THOUSANDTHS;
+/// How a choice is made: 0 by the remainder, 1 evenly.
+pub const MODES: RangeInclusive<u64> = 0..=1;
 
 /// What a walk is asked to do; `flips` are those allowed for each walk.
 #[derive(Clone, Copy, Debug, Default, PartialEq, Eq)]
@@ -16,6 +18,7 @@ pub struct Order {
     pub flips: u64,
     pub walks: u64,
     pub bias: u64,
+    pub even: u64,
 }
 
 impl Order {
@@ -25,10 +28,11 @@ impl Order {
         flips: 10,
         walks: 1,
         bias: 400,
+        even: 0,
     };
 
-    pub fn all(&self) -> [u64; 4] {
-        [self.seed, self.flips, self.walks, self.bias]
+    pub fn all(&self) -> [u64; 5] {
+        [self.seed, self.flips, self.walks, self.bias, self.even]
     }
 
     pub fn is_in_range(&self) -> bool {
@@ -36,5 +40,6 @@ impl Order {
             && FLIPS.contains(&self.flips)
             && WALKS.contains(&self.walks)
             && BIASES.contains(&self.bias)
+            && MODES.contains(&self.even)
     }
 }

@@ -1,4 +1,4 @@
-//! The order sheet: four lines before the clause text.
+//! The order sheet: four lines before the clause text, and a fifth that may stand there.
 
 use std::ops::RangeInclusive;
 
@@ -13,6 +13,11 @@ pub const LINES: [(&str, RangeInclusive<u64>); 4] = [
     ("walks=", WALKS),
     ("bias=", BIASES),
 ];
+
+/// The fifth line, and how it begins.
+pub const CHOICE_KEY: &[u8] = b"choice=";
+pub const CHOICE_LINE: &[u8] = b"choice=even";
+const CHOICE_PLACE: u64 = 5;
 
 /// "A number has 1 to 10 digits".
 const MOST_DIGITS: usize = 10;
@@ -64,6 +69,10 @@ fn judge_lines(input: &[u8]) -> Result<(Order, usize), Fault> {
         numbers[index] = number;
         start += line.len() + 1;
     }
+    let even = judge_choice(&input[start..])?;
+    if even {
+        start += CHOICE_LINE.len() + 1;
+    }
     let [seed, flips, walks, bias] = numbers;
     Ok((
         Order {
@@ -71,9 +80,24 @@ fn judge_lines(input: &[u8]) -> Result<(Order, usize), Fault> {
             flips,
             walks,
             bias,
+            even: u64::from(even),
         },
         start,
     ))
+}
+
+/// Whether the fifth line is there; "a line that begins with choice= in that place and isn't exactly this is reason 10, line 5".
+fn judge_choice(rest: &[u8]) -> Result<bool, Fault> {
+    if !rest.starts_with(CHOICE_KEY) {
+        return Ok(false);
+    }
+    match line_from(rest) {
+        Some(line) if line == CHOICE_LINE => Ok(true),
+        _ => Err(Fault {
+            reason: SHEET_FORM,
+            line: CHOICE_PLACE,
+        }),
+    }
 }
 
 /// The line without its byte 10; none where the line "is missing or lacks its byte 10".

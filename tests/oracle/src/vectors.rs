@@ -12,7 +12,10 @@ pub const SHEET: &[u8] = b"seed=1\nflips=10\nwalks=1\nbias=400\n";
 
 /// Every row of every file; the first lines of the files say how they are written.
 pub fn vectors() -> Vec<Vector> {
-    let files = [include_str!("../../vectors/02-blank-lines.txt")];
+    let files = [
+        include_str!("../../vectors/02-blank-lines.txt"),
+        include_str!("../../vectors/05-even-choices.txt"),
+    ];
     let rows = files.into_iter().flat_map(str::lines);
     rows.filter(|row| !row.starts_with('#'))
         .map(vector)

@@ -150,7 +150,7 @@ impl<'a> Walker<'a> {
 
     /// Step 3: "It is drawn even when there is one."
     fn choose_clause(&mut self) -> usize {
-        let slot = self.generator.choice(self.state.uncovered.len());
+        let slot = self.choice(self.state.uncovered.len());
         self.state.uncovered[slot]
     }
 
@@ -179,7 +179,16 @@ impl<'a> Walker<'a> {
     }
 
     fn choose_among(&mut self, literals: &[usize]) -> usize {
-        literals[self.generator.choice(literals.len())]
+        literals[self.choice(literals.len())]
+    }
+
+    /// "every choice takes the mode"
+    fn choice(&mut self, among: usize) -> usize {
+        if self.order.even == 1 {
+            self.generator.even_choice(among as u64) as usize
+        } else {
+            self.generator.choice(among)
+        }
     }
 
     fn least_break_count(&self, literals: &[usize]) -> usize {

@@ -136,6 +136,10 @@ fn each_kind_of_sheet_does_what_it_says() {
             SheetKind::ChangedBytes => assert_eq!(reasons, [0, 10, 11].into()),
             SheetKind::TwoFaults => assert_eq!(reasons, [10, 11].into()),
             SheetKind::ExtraLine => assert!(reasons.contains(&10)),
+            SheetKind::NearlyEven | SheetKind::EvenCut => {
+                assert_eq!(reasons, [0, 10].into());
+                assert_eq!(lines, [0, 5].into());
+            }
             _ => assert_eq!(reasons, [10].into(), "{kind:?}"),
         }
         if reasons == [10].into() {

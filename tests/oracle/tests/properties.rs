@@ -6,7 +6,7 @@ use std::collections::{BTreeMap, BTreeSet};
 
 use common::*;
 use oracle::agree::agree;
-use oracle::draw::{choice, draw, heads};
+use oracle::draw::{choice, choice_even, draw, draws_from, heads};
 use oracle::flips::flip;
 use oracle::generate::lent::lengthen;
 use oracle::generate::lines::opposite_word;
@@ -551,10 +551,19 @@ fn the_reader_repeats_its_end_and_repeats_faults_until_told_to_pass() {
 
 #[test]
 fn draws_asked_for_alone_are_those_of_the_rules() {
-    let mut refused = 0;
+    let (mut refused, mut again) = (0, 0);
     for seed in 0..20_000 {
         let DrawCase { state, among, bias } = draw_case(&mut Random::new(seed));
         let (drawn, chosen, tossed) = (draw(state), choice(state, among), heads(state, bias));
+        let even = choice_even(state, among);
+        assert_eq!(even.reason, chosen.reason);
+        if even.reason == 0 {
+            let drawn = draws_from(state as u32).position(|draw| u64::from(draw) == even.state);
+            again += u64::from(drawn.expect("it is drawn") > 0);
+            assert!(drawn < Some(8) && even.number == (even.state - 1) % among);
+        } else {
+            assert_eq!((even.number, even.state), (0, state));
+        }
         assert_eq!(drawn.reason == 11, state == 0);
         assert_eq!(chosen.reason == 11, state == 0 || among == 0);
         assert_eq!(tossed.reason == 11, state == 0 || bias > 1_000);
@@ -573,7 +582,7 @@ fn draws_asked_for_alone_are_those_of_the_rules() {
         let below = u64::from(drawn.number % 1_000 < bias);
         assert!(tossed.reason != 0 || tossed.number == below);
     }
-    assert!(refused > 1_000);
+    assert!(refused > 1_000 && again > 1_000);
 }
 
 /// The number after a key of the printed lines.

@@ -1,10 +1,10 @@
-//! One test for each open point of the readings, 1 to 31.
+//! One test for each open point of the readings.
 
 mod common;
 
 use common::*;
 use oracle::agree::agree;
-use oracle::draw::{choice, draw, draws_from, heads};
+use oracle::draw::{choice, choice_even, draw, draws_from, heads};
 use oracle::flips::flip;
 use oracle::reader::{pack, Reader, Told};
 use oracle::sheet::read_sheet;
@@ -293,6 +293,7 @@ fn draws_of_the_first_flip(clauses: &str, bias: u64) -> usize {
             flips: 1,
             walks: 2,
             bias,
+            even: 0,
         },
     );
     assert_eq!((answer.walks, tables.values[1]), (2, 0));
@@ -531,4 +532,49 @@ fn point_32_a_blank_line_is_met_at_its_end_and_a_dropped_line_is_none() {
     );
     accepted("~\n~ \na ~a \nb ~\na\n");
     assert_refused("", 9, 0);
+}
+
+#[test]
+fn point_33_a_line_that_begins_with_choice_is_the_fifth_or_a_fault() {
+    let fault = refusal(10, 5);
+    for line in [
+        "choice=a\n",
+        "choice=\n",
+        "choice=eve",
+        "choice=even",
+        "choice=even \n",
+        "choice=even\r\n",
+    ] {
+        assert_eq!(printed(GOOD_SHEET, line), fault, "{line:?}");
+    }
+    assert_eq!(printed(GOOD_SHEET, "choice"), refusal(3, 0));
+    assert_eq!(
+        printed(GOOD_SHEET, "choice=even\nchoice=even\n"),
+        refusal(5, 1)
+    );
+    let read = read_sheet(format!("{GOOD_SHEET}choice=even\na\n").as_bytes());
+    assert_eq!(
+        (read.order.even, read.text_start),
+        (1, GOOD_SHEET.len() + 12)
+    );
+}
+
+#[test]
+fn point_34_the_modes_differ_but_among_one() {
+    for state in draws_from(1).take(1_000).map(u64::from) {
+        assert_eq!(choice_even(state, 1), choice(state, 1));
+        for among in 2..20 {
+            let (even, plain) = (choice_even(state, among), choice(state, among));
+            assert!(even.state != plain.state || even.number != plain.number);
+        }
+    }
+    let eighth = choice_even(8_368, 2_147_483_649);
+    assert_eq!(
+        (eighth.number, eighth.state),
+        (1_264_041_421, 3_411_525_071)
+    );
+    assert_eq!(draws_from(8_368).nth(7), Some(3_411_525_071));
+    for (state, among) in [(0, 3), (7, 0)] {
+        assert_eq!(choice_even(state, among), choice(state, among));
+    }
 }

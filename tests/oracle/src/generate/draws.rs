@@ -17,7 +17,8 @@ pub fn draw_case(random: &mut Random) -> DrawCase {
     let small = random.between(1, 20) as u64;
     let most = *SEEDS.end();
     let state = random.pick(&[0, 1, 2, most, any, any, any, any]);
-    let among = random.pick(&[0, 1, 2, 3, THOUSANDTHS, most, any, small]);
+    let half = 1 << 31;
+    let among = random.pick(&[0, 1, 2, 3, THOUSANDTHS, half, half + 1, most, any, small]);
     let bias = random.pick(&[
         0,
         1,

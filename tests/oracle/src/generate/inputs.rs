@@ -12,7 +12,7 @@ use super::valid_texts::valid_text;
 use crate::kinds;
 use crate::limits::Limits;
 use crate::order::Order;
-use crate::sheet::read_sheet;
+use crate::sheet::{read_sheet, CHOICE_KEY};
 
 /// Above so many bytes a text may hold thousands of clauses.
 const LONG_TEXT: usize = 10_000;
@@ -92,8 +92,12 @@ fn order_for(text: &[u8], random: &mut Random) -> Order {
     }
 }
 
+/// Only after the fifth line may a text begin as that line does.
 fn after_good_sheet(text: Vec<u8>, random: &mut Random) -> Vec<u8> {
-    let order = order_for(&text, random);
+    let mut order = order_for(&text, random);
+    if text.starts_with(CHOICE_KEY) {
+        order.even = 1;
+    }
     [good_sheet(&order), text].concat()
 }
 

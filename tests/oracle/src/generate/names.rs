@@ -11,9 +11,9 @@ const LOWEST: usize = 33;
 pub const ONE_BYTE_NAMES: usize = 93;
 
 /// Names that are easily taken for something else.
-const STRANGE: [&str; 16] = [
+const STRANGE: [&str; 18] = [
     "?", "!", "}", "!!!!!!!!", "}}}}}}}}", "=", "0", "#", "-", "c", "p", "seed=1", "bias=400",
-    "answer=", "\\n", "{}",
+    "choice", "choice=a", "answer=", "\\n", "{}",
 ];
 
 kinds! {

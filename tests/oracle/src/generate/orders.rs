@@ -2,7 +2,7 @@
 
 use super::random::Random;
 use crate::kinds;
-use crate::order::{Order, BIASES, FLIPS, SEEDS, THOUSANDTHS, WALKS};
+use crate::order::{Order, BIASES, FLIPS, MODES, SEEDS, THOUSANDTHS, WALKS};
 
 kinds! {
     pub enum OrderKind {
@@ -20,6 +20,7 @@ kinds! {
             FlipsOut,
             WalksOut,
             BiasOut,
+            ModeOut,
             /// Several numbers out of range at once.
             ManyOut,
         }
@@ -52,6 +53,7 @@ pub fn order_of(kind: OrderKind, random: &mut Random) -> Order {
         flips: some_flips(kind, random),
         walks: random.between(1, 5) as u64,
         bias: some_bias(random),
+        even: random.below(2) as u64,
     };
     put_out_of_range(&mut order, kind, random);
     order
@@ -97,5 +99,8 @@ fn put_out_of_range(order: &mut Order, kind: OrderKind, random: &mut Random) {
     }
     if kind == OrderKind::BiasOut || many {
         order.bias = random.pick(&[BIASES.end() + 1, most]);
+    }
+    if kind == OrderKind::ModeOut || many && random.coin() {
+        order.even = random.pick(&[MODES.end() + 1, most]);
     }
 }

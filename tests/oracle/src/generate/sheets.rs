@@ -7,6 +7,9 @@ use crate::kinds;
 use crate::order::{Order, BIASES, FLIPS, SEEDS, WALKS};
 use crate::sheet::LINES;
 
+/// The fifth line.
+const EVEN: &str = "choice=even";
+
 kinds! {
     pub enum SheetKind {
         Good,
@@ -26,6 +29,10 @@ kinds! {
         Spaces,
         LinesSwapped,
         ExtraLine,
+        /// A fifth line that is nearly the one that may stand there, or only looks like it.
+        NearlyEven,
+        /// The input ends inside the fifth line.
+        EvenCut,
         ChangedBytes,
         /// Two lines are faulty; the upper one is named.
         TwoFaults,
@@ -34,7 +41,10 @@ kinds! {
 
 /// Whether clause text may follow the sheet; a sheet that is cut must end the input.
 pub fn text_may_follow(kind: SheetKind) -> bool {
-    !matches!(kind, SheetKind::NoByte10 | SheetKind::EndsEarly)
+    !matches!(
+        kind,
+        SheetKind::NoByte10 | SheetKind::EndsEarly | SheetKind::EvenCut
+    )
 }
 
 /// A sheet of any kind.
@@ -58,6 +68,8 @@ pub fn sheet_of_order(kind: SheetKind, order: &Order, random: &mut Random) -> Ve
     let line = random.below(LINES.len());
     let mut lines = lines_of(order);
     match kind {
+        SheetKind::NearlyEven => lines.insert(LINES.len(), nearly_even(random)),
+        SheetKind::EvenCut => return even_cut(order, random),
         SheetKind::RangeEnds => lines = lines_of(&order_at_range_ends(random)),
         SheetKind::LineMissing => drop(lines.remove(line)),
         SheetKind::EndsEarly => lines.truncate(line),
@@ -72,11 +84,48 @@ pub fn sheet_of_order(kind: SheetKind, order: &Order, random: &mut Random) -> Ve
 }
 
 fn lines_of(order: &Order) -> Vec<String> {
-    LINES
-        .iter()
-        .zip(order.all())
+    let numbers = LINES.iter().zip(order.all());
+    let mut lines: Vec<String> = numbers
         .map(|((key, _), number)| format!("{key}{number}"))
-        .collect()
+        .collect();
+    if order.even == 1 {
+        lines.push(EVEN.into());
+    }
+    lines
+}
+
+fn nearly_even(random: &mut Random) -> String {
+    let lines = [
+        "choice=",
+        "choice=e",
+        "choice=eve",
+        "choice=evenly",
+        "choice=odd",
+        "choice=even ",
+        "choice=even\r",
+        "choice=even\t",
+        "choice= even",
+        "choice=EVEN",
+        "choice==",
+        "choice=1",
+        "choice=~",
+        "choice",
+        "choic=even",
+        "Choice=x",
+        " choice=x",
+        "~choice=x",
+        "~ choice=even",
+        "choice even",
+        EVEN,
+    ];
+    random.pick(&lines).into()
+}
+
+/// The last line is at least begun.
+fn even_cut(order: &Order, random: &mut Random) -> Vec<u8> {
+    let mut bytes = good_sheet(&Order { even: 0, ..*order });
+    bytes.extend(&EVEN.as_bytes()[..random.between(1, EVEN.len())]);
+    bytes
 }
 
 fn join(lines: &[String]) -> Vec<u8> {
@@ -98,6 +147,7 @@ fn order_at_range_ends(random: &mut Random) -> Order {
         flips,
         walks,
         bias,
+        even: random.below(2) as u64,
     }
 }
 
