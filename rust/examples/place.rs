@@ -6,7 +6,7 @@
 use std::process::ExitCode;
 use std::{env, fs};
 
-use ngiyarumba::{Order, Outcome, Tables};
+use ngiyarumba::{Choice, Order, Outcome, Tables};
 
 /// For clause text that comes with no sheet.
 const ORDER: Order = Order {
@@ -14,6 +14,7 @@ const ORDER: Order = Order {
     flips: 10_000,
     walks: 100,
     bias: 400,
+    choice: Choice::Remainder,
 };
 
 fn main() -> ExitCode {
@@ -68,7 +69,7 @@ fn left(tables: &Tables) -> String {
     uncovered.collect::<Vec<_>>().join("\n")
 }
 
-/// The four numbers of a sheet, and the clause text after them.
+/// The numbers of a sheet, how it chooses, and the clause text after them.
 fn split(input: &str) -> Option<(Order, &str)> {
     let mut lines = input.splitn(5, '\n');
     let mut number = |key| lines.next()?.strip_prefix(key)?.parse().ok();
@@ -77,6 +78,15 @@ fn split(input: &str) -> Option<(Order, &str)> {
         flips: number("flips=")?,
         walks: number("walks=")?,
         bias: number("bias=")?,
+        choice: Choice::Remainder,
     };
-    Some((order, lines.next()?))
+    let rest = lines.next()?;
+    if !rest.starts_with("choice=") {
+        return Some((order, rest));
+    }
+    let choice = Choice::Even;
+    Some((
+        Order { choice, ..order },
+        rest.strip_prefix("choice=even\n")?,
+    ))
 }

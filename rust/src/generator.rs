@@ -45,6 +45,12 @@ impl Generator {
         self.take(sys::choice(self.state, m))
     }
 
+    /// A number from 0 to m - 1, none of them favoured: a draw that would favour some is made again, at
+    /// most eight draws in all. A choice among 0 is out of range, and nothing is drawn.
+    pub fn choice_even(&mut self, m: u32) -> Result<u32, Error> {
+        self.take(sys::choice_even(self.state, m))
+    }
+
     /// Whether the draw's remainder by 1,000 is below the bias. A bias over 1,000 is out of range,
     /// and nothing is drawn.
     pub fn heads(&mut self, bias: u32) -> Result<bool, Error> {

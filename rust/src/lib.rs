@@ -10,7 +10,7 @@
 //!
 //! let mut tables = Tables::new();
 //! tables.read("a b\n~a b\n")?;
-//! let outcome = tables.walk(Order { seed: 1, flips: 10, walks: 1, bias: 400 })?;
+//! let outcome = tables.walk(Order { flips: 10, ..Order::default() })?;
 //! assert_eq!(outcome, Outcome::Found { walks: 1, flips: 1, chosen: 2 });
 //! assert_eq!(tables.answer().as_deref(), Some("a b"));
 //! # Ok::<(), ngiyarumba::Error>(())
@@ -28,6 +28,11 @@
 #![deny(missing_docs)]
 #![deny(unsafe_code)]
 
+/// The example of README.md is run with those of this crate.
+#[cfg(doctest)]
+#[doc = include_str!("../../README.md")]
+pub struct Readme;
+
 mod error;
 mod generator;
 mod run;
@@ -40,4 +45,4 @@ pub use error::{Error, Reason};
 pub use generator::Generator;
 pub use run::run;
 pub use tables::{Counts, Tables};
-pub use walking::{Order, Outcome};
+pub use walking::{Choice, Order, Outcome};

@@ -1,7 +1,7 @@
 //! The calls of the static library, as `include/ngiyarumba.h` declares them. All that is unsafe
 //! stands here.
 
-use crate::{Counts, Order};
+use crate::{Choice, Counts, Order};
 
 const TERMS: usize = 2_048;
 const CLAUSES: usize = 8_192;
@@ -89,6 +89,7 @@ pub struct RunAnswer {
 extern "C" {
     fn ngi_draw(state: u32) -> Drawn;
     fn ngi_choice(state: u32, m: u32) -> Drawn;
+    fn ngi_choice_even(state: u32, m: u32) -> Drawn;
     fn ngi_heads(state: u32, bias: u32) -> Drawn;
     fn ngi_read(
         text: *const u8, text_length: usize,
@@ -108,6 +109,7 @@ extern "C" {
         flips: u32,
         walks: u32,
         bias: u32,
+        even: u32,
         terms: u32, clauses: u32,
         literals: u32, uncovered: u32,
         names: *const u64, names_length: usize,
@@ -185,6 +187,10 @@ pub fn choice(state: u32, m: u32) -> Drawn {
     unsafe { ngi_choice(state, m) }
 }
 
+pub fn choice_even(state: u32, m: u32) -> Drawn {
+    unsafe { ngi_choice_even(state, m) }
+}
+
 pub fn heads(state: u32, bias: u32) -> Drawn {
     unsafe { ngi_heads(state, bias) }
 }
@@ -197,9 +203,13 @@ pub fn read(text: &[u8], lent: &mut Lent) -> ReadAnswer {
 
 #[rustfmt::skip]
 pub fn walk(order: Order, counts: Counts, lent: &mut Lent) -> WalkAnswer {
+    let even = match order.choice {
+        Choice::Remainder => 0,
+        Choice::Even => 1,
+    };
     unsafe {
         call!(ngi_walk, [
-            order.seed, order.flips, order.walks, order.bias,
+            order.seed, order.flips, order.walks, order.bias, even,
             counts.terms, counts.clauses, counts.literals, counts.uncovered
         ], lent, [])
     }

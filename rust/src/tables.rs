@@ -71,7 +71,7 @@ impl Tables {
     ///
     /// ```
     /// # use ngiyarumba::{Order, Reason, Tables};
-    /// let order = Order { seed: 7, flips: 100, walks: 3, bias: 400 };
+    /// let order = Order { seed: 7, flips: 100, ..Order::default() };
     /// let mut tables = Tables::new();
     /// tables.read("river wetland\n~river ~wetland\n")?;
     /// assert!(tables.walk(order)?.is_found());

@@ -12,6 +12,32 @@ pub struct Order {
     /// How often, in thousandths, any literal of the clause may be chosen where each would uncover
     /// another clause: 0 to 1,000.
     pub bias: u32,
+    /// How a clause, or a literal among several, is chosen.
+    pub choice: Choice,
+}
+
+/// How one of several is chosen, by draws.
+#[derive(Clone, Copy, Debug, Default, PartialEq, Eq, Hash)]
+pub enum Choice {
+    /// By the draw's remainder, which slightly favours the first: an order sheet of four lines.
+    #[default]
+    Remainder,
+    /// Evenly, drawing again where the remainder would favour some: the sheet's line `choice=even`.
+    Even,
+}
+
+/// Seed 1, ten walks of at most 10,000 flips, bias 400, choices by the remainder: a start for an order
+/// of one's own, as in `Order { seed: 7, ..Order::default() }`.
+impl Default for Order {
+    fn default() -> Order {
+        Order {
+            seed: 1,
+            flips: 10_000,
+            walks: 10,
+            bias: 400,
+            choice: Choice::Remainder,
+        }
+    }
 }
 
 /// How walks end.
@@ -21,7 +47,7 @@ pub struct Order {
 ///
 /// let mut tables = Tables::new();
 /// tables.read("a\n~a\n")?;
-/// let outcome = tables.walk(Order { seed: 1, flips: 2, walks: 1, bias: 400 })?;
+/// let outcome = tables.walk(Order { flips: 2, walks: 1, ..Order::default() })?;
 /// assert_eq!(outcome, Outcome::GaveUp { walks: 1, flips: 2, uncovered: 1 });
 /// assert_eq!(tables.answer(), None);
 /// # Ok::<(), ngiyarumba::Error>(())

@@ -58,6 +58,9 @@ fn the_draws_of_the_scope_are_drawn() {
     let mut generator = Generator::new(270_369).unwrap();
     assert_eq!(generator.choice(3), Ok(1));
     assert_eq!(generator.state(), 67_634_689);
+    let mut generator = Generator::new(270_369).unwrap();
+    assert_eq!(generator.choice_even(3), Ok(0));
+    assert_eq!(generator.state(), 67_634_689);
 }
 
 #[test]

@@ -97,7 +97,7 @@ fn calls_declared_here() -> Calls {
 #[test]
 fn every_call_is_declared_as_in_the_header() {
     let calls = calls_of_the_header();
-    assert_eq!(calls.len(), 7);
+    assert_eq!(calls.len(), 8);
     assert_eq!(calls, calls_declared_here());
 }
 

@@ -88,7 +88,12 @@ fn reason_15_a_blank_line() {
 /// A sheet is read by a run alone.
 #[test]
 fn reason_10_the_form_of_the_sheet() {
-    for (sheet, line) in [("", 1), ("seed=1\nflips=10\nwalks=01\nbias=400\n", 3)] {
+    let fifth = format!("{SHEET}choice=odd\n");
+    for (sheet, line) in [
+        ("", 1),
+        ("seed=1\nflips=10\nwalks=01\nbias=400\n", 3),
+        (&fifth, 5),
+    ] {
         let printed = run(format!("{sheet}{TEXT}")).unwrap();
         assert_eq!(printed, format!("result=refused\nreason=10\nline={line}\n"));
     }
@@ -126,6 +131,7 @@ fn reason_11_draws_out_of_range() {
     assert_eq!(reason_of(Generator::new(0)), Reason::OutOfRange);
     let mut generator = Generator::new(7).unwrap();
     assert_eq!(reason_of(generator.choice(0)), Reason::OutOfRange);
+    assert_eq!(reason_of(generator.choice_even(0)), Reason::OutOfRange);
     assert_eq!(reason_of(generator.heads(1_001)), Reason::OutOfRange);
     assert_eq!(generator.state(), 7);
 }

@@ -3,7 +3,7 @@
 mod common;
 
 use common::*;
-use ngiyarumba::{Order, Outcome};
+use ngiyarumba::{Choice, Order, Outcome};
 
 #[test]
 fn every_answer_that_is_found_covers_every_clause() {
@@ -17,7 +17,8 @@ fn every_answer_that_is_found_covers_every_clause() {
             seed,
             flips: 200,
             walks: 3,
-            bias: 400,
+            choice: [Choice::Remainder, Choice::Even][seed as usize % 2],
+            ..ORDER
         };
         let mut tables = read(&text);
         let outcome = tables.walk(order).unwrap();
@@ -30,6 +31,33 @@ fn every_answer_that_is_found_covers_every_clause() {
         found += usize::from(outcome.is_found());
     }
     assert!(found > 20 && found < 190, "{found} of 200 were found");
+}
+
+/// After one flip on this file each mode has turned another term.
+#[test]
+fn the_choice_decides_how_a_walk_goes() {
+    let mut tables = read("~a\n~b\n");
+    let order = Order {
+        seed: 3_764_646_662,
+        flips: 1,
+        ..ORDER
+    };
+    for (choice, values) in [
+        (Choice::Remainder, [true, false]),
+        (Choice::Even, [false, true]),
+    ] {
+        assert!(!tables.walk(Order { choice, ..order }).unwrap().is_found());
+        assert!(tables.terms().map(|(_, value)| value).eq(values));
+    }
+}
+
+#[test]
+fn the_default_order_is_in_range() {
+    assert!(read("a b\n~a b\n")
+        .walk(Order::default())
+        .unwrap()
+        .is_found());
+    assert_eq!(Order::default().choice, Choice::Remainder);
 }
 
 #[test]

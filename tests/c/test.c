@@ -86,14 +86,18 @@ static void draws(void)
     CHECK(first.number == 270369 && second.number == 67634689);
     ngi_drawn chosen = ngi_choice(first.state, 3);
     CHECK(chosen.reason == NGI_NO_REASON && chosen.number == 1 && chosen.state == 67634689);
+    ngi_drawn even = ngi_choice_even(first.state, 3), again = ngi_choice_even(1584200935, 2); /* draws 4294967295, which is not below */
+    CHECK(even.reason == NGI_NO_REASON && even.number == 0 && even.state == 67634689);
+    CHECK(again.reason == NGI_NO_REASON && again.number == 0 && again.state == 253983);
     CHECK(ngi_heads(1, 370).number == 1 && ngi_heads(1, 369).number == 0); /* the draw's remainder is 369 */
 }
 
 static void refused_draws(void)
 {
-    ngi_drawn none = ngi_draw(0), among_none = ngi_choice(7, 0), biased = ngi_heads(7, 1001);
+    ngi_drawn none = ngi_draw(0), among_none = ngi_choice(7, 0), even = ngi_choice_even(7, 0), biased = ngi_heads(7, 1001);
     CHECK(none.reason == NGI_OUT_OF_RANGE && none.number == 0 && none.state == 0);
     CHECK(among_none.reason == NGI_OUT_OF_RANGE && among_none.number == 0 && among_none.state == 7);
+    CHECK(even.reason == NGI_OUT_OF_RANGE && even.number == 0 && even.state == 7);
     CHECK(biased.reason == NGI_OUT_OF_RANGE && biased.number == 0 && biased.state == 7);
 }
 
@@ -160,26 +164,38 @@ static void refused_readings(void)
 
 static void walking(void)
 {
-    /* seed 1, at most 10 flips, one walk, bias 400 */
+    /* seed 1, at most 10 flips, one walk, bias 400, choices by the remainder */
     ngi_read_answer r = ngi_read(BYTES(TEXT), NGI_LEND(t));
-    ngi_walk_answer a = ngi_walk(1, 10, 1, 400, COUNTS(r), NGI_LEND(t));
+    ngi_walk_answer a = ngi_walk(1, 10, 1, 400, 0, COUNTS(r), NGI_LEND(t));
     CHECK(a.result == 1 && a.reason == NGI_NO_REASON && a.walks == 1 && a.flips == 1);
     CHECK(a.terms == 2 && a.clauses == 2 && a.literals == 4 && a.uncovered == 0);
     CHECK(t.values[0] == 3 && t.values[1] == 0); /* a and b are both true */
     CHECK(BEGINS(t.true_counts, 2, 1, 0) && BEGINS(t.break_counts, 0, 1, 0));
     CHECK(BEGINS(t.literals_table, 0, 2, 1, 2, 0));
     /* a walk after a walk: with no flips it ends at its start, where a alone is true */
-    a = ngi_walk(1, 0, 1, 400, COUNTS(a), NGI_LEND(t));
+    a = ngi_walk(1, 0, 1, 400, 0, COUNTS(a), NGI_LEND(t));
     CHECK(a.result == 2 && a.walks == 1 && a.flips == 0 && a.uncovered == 1);
     CHECK(t.values[0] == 1 && t.uncovered_list[0] == 1);
+}
+
+/* The same file by each mode: after one flip another term has been chosen. */
+static void walking_evenly(void)
+{
+    ngi_read_answer r = ngi_read(BYTES("~a\n~b\n"), NGI_LEND(t));
+    ngi_walk_answer a = ngi_walk(3764646662, 1, 1, 400, 0, COUNTS(r), NGI_LEND(t));
+    CHECK(a.result == 2 && a.flips == 1 && t.values[0] == 1);
+    a = ngi_walk(3764646662, 1, 1, 400, 1, COUNTS(a), NGI_LEND(t));
+    CHECK(a.result == 2 && a.flips == 1 && t.values[0] == 2);
+    a = ngi_walk(3764646662, 1, 1, 400, 2, COUNTS(a), NGI_LEND(t));
+    CHECK(a.result == 0 && a.reason == NGI_OUT_OF_RANGE && t.values[0] == 2);
 }
 
 static void refused_walks(void)
 {
     ngi_read_answer r = ngi_read(BYTES(TEXT), NGI_LEND(t));
-    CHECK(ngi_walk(0, 10, 1, 400, COUNTS(r), NGI_LEND(t)).reason == NGI_OUT_OF_RANGE);
-    CHECK(ngi_walk(1, 10, 1, 400, COUNTS(r), SHORT(t)).reason == NGI_TABLE_TOO_SHORT);
-    ngi_walk_answer a = ngi_walk(1, 10, 1, 400, r.terms, r.clauses + 1, r.literals, r.uncovered, NGI_LEND(t));
+    CHECK(ngi_walk(0, 10, 1, 400, 0, COUNTS(r), NGI_LEND(t)).reason == NGI_OUT_OF_RANGE);
+    CHECK(ngi_walk(1, 10, 1, 400, 0, COUNTS(r), SHORT(t)).reason == NGI_TABLE_TOO_SHORT);
+    ngi_walk_answer a = ngi_walk(1, 10, 1, 400, 0, r.terms, r.clauses + 1, r.literals, r.uncovered, NGI_LEND(t));
     CHECK(a.result == 0 && a.reason == NGI_TABLES_DISAGREE && a.walks == 0 && a.flips == 0 && a.clauses == 3);
     CHECK(t.values[0] == 0 && BEGINS(t.true_counts, 0, 1, 0)); /* as they were */
 }
@@ -229,6 +245,8 @@ static void running(void)
     CHECK(PRINTS("seed=0\n" TEXT, "result=refused\nreason=11\nline=1\n"));
     CHECK(t.names[0] == 'a'); /* a refused sheet leaves the tables as they were */
     CHECK(PRINTS(TEXT, "result=refused\nreason=10\nline=1\n"));
+    CHECK(PRINTS(SHEET "choice=even\n" TEXT, FOUND));
+    CHECK(PRINTS(SHEET "choice=odd\n" TEXT, "result=refused\nreason=10\nline=5\n"));
     CHECK(PRINTS(SHEET "a b\na~b\n", "result=refused\nreason=4\nline=2\n"));
     CHECK(all_are_zero());
 }
@@ -259,6 +277,7 @@ int main(void)
     reading();
     refused_readings();
     walking();
+    walking_evenly();
     refused_walks();
     flipping();
     refused_flips();

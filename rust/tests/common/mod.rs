@@ -4,7 +4,7 @@
 
 use std::collections::HashMap;
 
-use ngiyarumba::{Order, Tables};
+use ngiyarumba::{Choice, Order, Tables};
 
 pub const TEXT: &str = "a b\n~a b\n";
 pub const SHEET: &str = "seed=1\nflips=10\nwalks=1\nbias=400\n";
@@ -13,6 +13,7 @@ pub const ORDER: Order = Order {
     flips: 10,
     walks: 1,
     bias: 400,
+    choice: Choice::Remainder,
 };
 
 /// Tables with this text read.
