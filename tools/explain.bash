@@ -6,11 +6,7 @@ export LC_ALL=C # a byte is a byte
 most_read=65537 # the program reads no more: one byte over the limit
 sheet=(seed flips walks bias)
 ranges=('1 to 4294967295' '0 to 100000' '1 to 1000' '0 to 1000')
-
-# The number in the whole input of a line of the clause text, which begins after the sheet.
-text_at() { # LINE
-    echo $((${#sheet[@]} + $1))
-}
+choice_line=choice=even # which may follow
 
 # The bytes that the program was given, nothing where they are gone; `from` is the place in the file where it began to read.
 input() {
@@ -19,6 +15,16 @@ input() {
 
 line_of_input() { # NUMBER
     input | tail -n "+$1" | head -n 1
+}
+
+# How many lines the sheet has.
+sheet_lines() {
+    if [ "$(line_of_input "$((${#sheet[@]} + 1))" | tr '\0' x)" = "$choice_line" ]; then echo $((${#sheet[@]} + 1)); else echo "${#sheet[@]}"; fi
+}
+
+# The number in the whole input of a line of the clause text, which begins after the sheet.
+text_at() { # LINE
+    echo $(($(sheet_lines) + $1))
 }
 
 numbers() {
@@ -82,13 +88,13 @@ odd_in_text() {
 }
 
 # The first byte of a line of the sheet that is no printed character of ASCII.
-odd_in_sheet() { # KEY
+odd_in_sheet() { # WHAT MAY STAND THERE
     local byte place=0
     for byte in "${bytes[@]}"; do
         place=$((place + 1))
         [ "$byte" -ne 10 ] || return 0
         if [ "$byte" -lt 33 ] || [ "$byte" -gt 126 ]; then
-            echo "byte $place of the line is $(name_byte "$byte"): nothing but $1 and digits may stand there"
+            echo "byte $place of the line is $(name_byte "$byte"): nothing but $1 may stand there"
             return
         fi
     done
@@ -100,7 +106,7 @@ hint_cut() {
     local lines
     if [ -n "$(input | tail -c 1 | tr '\0' x)" ]; then
         lines=$(input | wc -l)
-        echo "line $((lines + 1 - ${#sheet[@]})) of the clause text, the last, does not end with byte 10 (a line feed); to add it, run: echo >> $file"
+        echo "line $((lines + 1 - $(sheet_lines))) of the clause text, the last, does not end with byte 10 (a line feed); to add it, run: echo >> $file"
     else
         echo 'usual causes: the last line was saved without a line feed, or the input was cut short'
     fi
@@ -124,6 +130,18 @@ hint_name() { # LINE
     [ -z "$name" ] || echo "it is the name that begins with $name"
 }
 
+# What is seen to be wrong with a line of the sheet, if it begins so: a byte that is not one of those that may stand there, or its end.
+fault_in_sheet() { # LINE BEGINNING WHAT MAY STAND THERE
+    local fault=''
+    if ends_with 13 10; then
+        fault="line $1 of the sheet ends with a carriage return: $(plain_line_ends)"
+    elif begins_with $(printf %s "$2" | numbers); then # each number a word
+        fault=$(odd_in_sheet "$3")
+        [ -n "$fault" ] || ends_with 10 || fault="line $1 of the sheet does not end with byte 10 (a line feed)"
+    fi
+    echo "$fault"
+}
+
 hint_form() { # LINE
     local key=${sheet[$1 - 1]}= hint=''
     local form="line $1 of the sheet must be $key and a number"
@@ -134,13 +152,18 @@ hint_form() { # LINE
         hint="the input ends before it: $form"
     elif [ "$1" -eq 1 ] && begins_with_mark; then
         hint="the file begins with a byte order mark: save it as plain text without one"
-    elif ends_with 13 10; then
-        hint="line $1 of the sheet ends with a carriage return: $(plain_line_ends)"
-    elif begins_with $(printf %s "$key" | numbers); then # each number a word
-        hint=$(odd_in_sheet "$key")
-        [ -n "$hint" ] || ends_with 10 || hint="line $1 of the sheet does not end with byte 10 (a line feed)"
+    else
+        hint=$(fault_in_sheet "$1" "$key" "$key and digits")
     fi
     echo "${hint:-$form of 1 to 10 digits, with no 0 before them}"
+}
+
+# The fifth line, which begins with choice= and is not the one that may stand there.
+hint_choice() { # LINE
+    local hint
+    take_line "$1"
+    hint=$(fault_in_sheet "$1" "$choice_line" "$choice_line")
+    echo "${hint:-line $1 of the sheet is $choice_line or left out; a clause in its place that begins with choice= needs a space before it}"
 }
 
 hint() { # REASON LINE
@@ -153,7 +176,7 @@ hint() { # REASON LINE
     7) echo "there may be at most 16,384 literals, those of all clauses together" ;;
     8) echo "there may be at most 8,192 clauses" ;;
     9) echo "every line after the sheet is a comment or true in any case, or there is none" ;;
-    10) hint_form "$2" ;;
+    10) if [ "$2" -gt "${#sheet[@]}" ]; then hint_choice "$2"; else hint_form "$2"; fi ;;
     11) echo "${sheet[$2 - 1]}= takes a number from ${ranges[$2 - 1]}" ;;
     15) echo "name there what is missing, or take the line out; a line of ~ alone says nothing" ;;
     esac
