@@ -9,6 +9,9 @@
 
 enum { SHEET_FORM = 10, LINES = 4, MOST_DIGITS = 10 };
 
+static const char choice_line[] = "choice=even\n";
+enum { CHOICE_KEY = 7, CHOICE_LINE = sizeof choice_line - 1 };
+
 static uint8_t input[NGI_TEXT + 1];
 static ngi_tables lent;
 
@@ -51,6 +54,12 @@ static uint32_t read_line(struct rest *r, const struct line *l, uint32_t *number
     return read < l->least || read > l->most ? NGI_OUT_OF_RANGE : NGI_NO_REASON;
 }
 
+/* Whether so much of the fifth line stands next. */
+static int begins(const struct rest *r, size_t length)
+{
+    return (size_t)(r->end - r->at) >= length && memcmp(r->at, choice_line, length) == 0;
+}
+
 /* The reason of the first faulty line, whose number is left in line. */
 static uint32_t read_sheet(struct rest *r, uint32_t *numbers, uint32_t *line)
 {
@@ -59,7 +68,14 @@ static uint32_t read_sheet(struct rest *r, uint32_t *numbers, uint32_t *line)
         *line = at + 1;
         reason = read_line(r, &lines[at], &numbers[at]);
     }
-    return reason;
+    if (reason != NGI_NO_REASON || !begins(r, CHOICE_KEY))
+        return reason;
+    *line = LINES + 1;
+    if (!begins(r, CHOICE_LINE))
+        return SHEET_FORM;
+    r->at += CHOICE_LINE;
+    numbers[LINES] = 1;
+    return NGI_NO_REASON;
 }
 
 /* --- what is printed --- */
@@ -111,7 +127,7 @@ static ngi_read_answer read_text(const struct rest *r)
 
 static int walk_and_report(const uint32_t *numbers, const ngi_read_answer *a)
 {
-    struct walker w = {numbers[0], numbers[1], numbers[2], numbers[3], 0, 0};
+    struct walker w = {numbers[0], numbers[1], numbers[2], numbers[3], numbers[LINES], 0, 0};
     struct tables t = {a->terms, a->clauses, a->literals, a->uncovered, lent.names, lent.values, lent.starts, lent.literals_table,
                        lent.occurrence_starts, lent.occurrences, lent.true_counts, lent.break_counts, lent.uncovered_list, lent.places};
     do
@@ -124,7 +140,7 @@ int main(void)
 {
     size_t length = fread(input, 1, sizeof input, stdin);
     struct rest r = {input, input + length};
-    uint32_t numbers[LINES], line, reason;
+    uint32_t numbers[LINES + 1] = {0}, line, reason;
     ngi_read_answer a;
     if (length > NGI_TEXT)
         return refuse(NGI_TEXT_TOO_LONG, 0);

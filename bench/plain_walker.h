@@ -6,11 +6,12 @@
 
 #include "plain_tables.h"
 
-enum { MOST_FLIPS = 100000, MOST_WALKS = 1000, SURE = 1000 };
+enum { MOST_FLIPS = 100000, MOST_WALKS = 1000, SURE = 1000, MOST_DRAWS = 8 };
+#define LAST_DRAW 4294967295u
 
 /* The numbers of an order, and how far the walks have come. */
 struct walker {
-    uint32_t state, flips, walks, bias;
+    uint32_t state, flips, walks, bias, even;
     uint32_t flips_made, walks_begun;
 };
 
@@ -24,9 +25,16 @@ static uint32_t draw(struct walker *w)
     return w->state;
 }
 
-static uint32_t draw_below(struct walker *w, uint32_t bound)
+/* One of so many numbers, in the order's mode. */
+static uint32_t choose(struct walker *w, uint32_t among)
 {
-    return draw(w) % bound;
+    uint32_t drawn = draw(w), bound;
+    if (!w->even)
+        return drawn % among;
+    bound = LAST_DRAW / among * among;
+    for (int left = MOST_DRAWS - 1; left > 0 && drawn - 1 >= bound; left--)
+        drawn = draw(w);
+    return (drawn - 1) % among;
 }
 
 /* --- the start of a walk --- */
@@ -83,14 +91,14 @@ static uint32_t choose_literal(struct walker *w, const struct tables *t, uint32_
 {
     uint16_t ties[NGI_TERMS];
     uint32_t least, count = collect_ties(t, clause, &least, ties), start = t->starts[clause];
-    if (least > 0 && draw_below(w, SURE) < w->bias)
-        return t->literals[start + draw_below(w, t->starts[clause + 1] - start)];
-    return count == 1 ? ties[0] : ties[draw_below(w, count)];
+    if (least > 0 && draw(w) % SURE < w->bias)
+        return t->literals[start + choose(w, t->starts[clause + 1] - start)];
+    return count == 1 ? ties[0] : ties[choose(w, count)];
 }
 
 static void step(struct walker *w, struct tables *t)
 {
-    uint32_t clause = t->list[draw_below(w, t->uncovered)];
+    uint32_t clause = t->list[choose(w, t->uncovered)];
     flip(t, choose_literal(w, t, clause) / 2);
     w->flips_made++;
 }

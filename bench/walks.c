@@ -1,12 +1,12 @@
 /*
- * Walks through ngi_walk and through the plain C version. KIND is as in files.h.
+ * Walks through ngi_walk and through the plain C version. KIND is as in files.h; EVEN is 0 or 1, as the walk takes it.
  *
- *   walks check KIND TERMS CLAUSES             gives both the same orders, on this file and on an easier one; the status is 0 where answers
- *                                              and tables are the same throughout, given up on this one, found on the easier
- *   walks time KIND TERMS CLAUSES              flips per second, and microseconds for a walk of no flips: of each ngi_walk's, the plain
- *                                              version's and how many times as quick ngi_walk is
- *   walks run KIND TERMS CLAUSES SIDE FLIPS    one walk by one side, ngi or plain, so that instructions can be counted; none makes no walk.
- *                                              The status is 0 where all its flips are made
+ *   walks check KIND TERMS CLAUSES EVEN             gives both the same orders, on this file and on an easier one; the status is 0 where
+ *                                                   answers and tables are the same throughout, given up on this one, found on the easier
+ *   walks time KIND TERMS CLAUSES EVEN              flips per second, and microseconds for a walk of no flips: of each ngi_walk's, the plain
+ *                                                   version's and how many times as quick ngi_walk is
+ *   walks run KIND TERMS CLAUSES EVEN SIDE FLIPS    one walk by one side, ngi or plain, so that instructions can be counted; none makes no
+ *                                                   walk. The status is 0 where all its flips are made
  */
 #include <stdint.h>
 #include <stdio.h>
@@ -22,16 +22,17 @@ enum { SEED = 1, BIAS = 400, SEEDS_CHECKED = 8, FLIPS_TIMED = 100000, WITHOUT_FL
 typedef __typeof__(ngi_walk) walk_function;
 
 struct order {
-    uint32_t seed, flips, walks, bias;
+    uint32_t seed, flips, walks, bias, even;
 };
 
 static struct tables one, other;
+static uint32_t even; /* of every walk, but one that is refused for it */
 
 /* --- calls --- */
 
 static ngi_walk_answer walk(walk_function *by, struct tables *t, struct order o)
 {
-    ngi_walk_answer answer = by(o.seed, o.flips, o.walks, o.bias, t->terms, t->clauses, t->literals, t->uncovered, NGI_LEND(t->lent));
+    ngi_walk_answer answer = by(o.seed, o.flips, o.walks, o.bias, o.even, t->terms, t->clauses, t->literals, t->uncovered, NGI_LEND(t->lent));
     t->uncovered = answer.uncovered;
     return answer;
 }
@@ -39,7 +40,7 @@ static ngi_walk_answer walk(walk_function *by, struct tables *t, struct order o)
 /* A walk that makes all its flips. */
 static void walk_on(walk_function *by, struct tables *t, uint32_t flips)
 {
-    ngi_walk_answer answer = walk(by, t, (struct order){SEED, flips, 1, BIAS});
+    ngi_walk_answer answer = walk(by, t, (struct order){SEED, flips, 1, BIAS, even});
     if (answer.result != GAVE_UP || answer.flips != flips)
         fail("the walk is refused, or finds before its flips are made");
 }
@@ -61,17 +62,17 @@ static void walk_by_both(struct order o, uint32_t result)
 /* The easier file has a quarter of the clauses, or those that its orphans need. */
 static int check(const char *kind, uint32_t terms, uint32_t clauses)
 {
-    static const struct order given_up[] = {{1, 0, 1, 400}, {2, 1, 3, 400}, {3, 4000, 1, 0}, {4, 4000, 2, 400}, {4294967295, 4000, 1, 1000}};
-    static const struct order refused[] = {{0, 1, 1, 400}, {1, 100001, 1, 400}, {1, 1, 0, 400}, {1, 1, 1001, 400}, {1, 1, 1, 1001}};
+    const struct order given_up[] = {{1, 0, 1, 400, even}, {2, 1, 3, 400, even}, {3, 4000, 1, 0, even}, {4, 4000, 2, 400, even}, {4294967295, 4000, 1, 1000, even}};
+    const struct order refused[] = {{0, 1, 1, 400, even}, {1, 100001, 1, 400, even}, {1, 1, 0, 400, even}, {1, 1, 1001, 400, even}, {1, 1, 1, 1001, even}, {1, 1, 1, 400, 2}};
     for (size_t at = 0; at < sizeof given_up / sizeof *given_up; at++)
         walk_by_both(given_up[at], GAVE_UP);
     for (size_t at = 0; at < sizeof refused / sizeof *refused; at++)
         walk_by_both(refused[at], REFUSED);
     make_file(&one, kind, terms, clauses / 4);
     for (uint32_t seed = 1; seed <= SEEDS_CHECKED; seed++)
-        walk_by_both((struct order){seed, 100000, 1, BIAS}, FOUND);
+        walk_by_both((struct order){seed, 100000, 1, BIAS, even}, FOUND);
     one.uncovered++;
-    walk_by_both((struct order){SEED, 1, 1, BIAS}, REFUSED);
+    walk_by_both((struct order){SEED, 1, 1, BIAS, even}, REFUSED);
     return 0;
 }
 
@@ -98,14 +99,16 @@ static int run(const char *side, uint32_t flips)
 
 int main(int count, char **words)
 {
-    if (count >= 5)
+    if (count >= 6) {
         make_file(&one, words[2], number(words[3]), number(words[4]));
-    if (count == 5 && strcmp(words[1], "check") == 0)
+        even = number(words[5]);
+    }
+    if (count == 6 && strcmp(words[1], "check") == 0)
         return check(words[2], number(words[3]), number(words[4]));
-    if (count == 5 && strcmp(words[1], "time") == 0)
+    if (count == 6 && strcmp(words[1], "time") == 0)
         return time_both();
-    if (count == 7 && strcmp(words[1], "run") == 0)
-        return run(words[5], number(words[6]));
-    printf("usage: walks check|time KIND TERMS CLAUSES, or walks run KIND TERMS CLAUSES ngi|plain|none FLIPS\n");
+    if (count == 8 && strcmp(words[1], "run") == 0)
+        return run(words[6], number(words[7]));
+    printf("usage: walks check|time KIND TERMS CLAUSES EVEN, or walks run KIND TERMS CLAUSES EVEN ngi|plain|none FLIPS\n");
     return 2;
 }
