@@ -1,5 +1,5 @@
 #!/usr/bin/env python3
-"""compare_written.py [SEED [COUNT]]: the definitions of `written` and `scan` against the independent program, on generated calls.
+"""compare_written.py [SEED [COUNT]]: the definitions of `written`, `scan` and `draw` against the independent program, on generated calls.
 
 The program prints calls with what they answer and leave (tests/oracle/examples/rows.rs), and the prover computes the same calls from the
 definitions, in a copy of the repository. Last line: 'N passed, M failed'."""
@@ -15,7 +15,10 @@ CHUNK = 40
 HEAD = """-- Generated calls, computed.
 use Prim.Native.Nat.{ℕ}
 use mathlib.Core.Path.{refl}
-use mathlib.Core.List.{List, [], _∷_}
+use mathlib.Core.List.{List, [], _∷_, _++_}
+use Rattle.draw.specs.declared.Drawn.{Drawn}
+use Rattle.draw.specs.Draw.{choiceOf, headsOf}
+use Rattle.draw.specs.Even.{evenOf}
 use Rattle.scan.specs.declared.Told.{Told}
 use Rattle.scan.specs.Scan.{scan, passed, cursorAt, toldOf}
 use Rattle.written.specs.declared.Counts.{Counts}
@@ -38,8 +41,8 @@ limits = record { text = 120; terms = 5; clauses = 7; literals = 16; list = 9 }
 abbrev counts : ℕ → ℕ → ℕ → ℕ → Counts
 counts t c l u = record { terms = t; clauses = c; literals = l; uncovered = u }
 
-abbrev order : ℕ → ℕ → ℕ → ℕ → Order
-order s f w b = record { seed = s; flips = f; walks = w; bias = b }
+abbrev order : ℕ → ℕ → ℕ → ℕ → ℕ → Order
+order s f w b e = record { seed = s; flips = f; walks = w; bias = b; even = e }
 
 abbrev seen : ℕ → ℕ → ℕ → ℕ → ℕ → Counts → Tables → Seen
 seen r e l w f n t =
@@ -85,6 +88,12 @@ steps t (pass at line ∷ more) = 0 ∷ 0 ∷ 0 ∷ 0 ∷ 0 ∷ passed t (cursor
 
 abbrev scanning : List ℕ → List Asked → Seen
 scanning t asked = stepped (steps t asked)
+
+-- a choice among m from the state y in each mode, then heads
+abbrev drawing : ℕ → ℕ → ℕ → Seen
+drawing y m b =
+    let numbers : Drawn → List ℕ = λ d. d .reason ∷ d .number ∷ d .next .state ∷ [] in
+    stepped (numbers (choiceOf m y) ++ numbers (evenOf m y) ++ numbers (headsOf b y))
 
 abbrev table : List (Example Seen)
 table =
