@@ -39,4 +39,4 @@ from-all P m h (suc k) n = by-taken (ltb (n - 1) (m * (4294967295 / m))) (h n) (
 pub even-lt : (m y : ℕ) → 0 < m → evenOf m y .number < m
 unfolding evenOf
 even-lt m zero l = l
-even-lt m (suc y) l = simp (eqb·suc-zero y, ne-eqb m 0 (λ e. omega arith)) (from-all (λ d. d .number < m) m (λ n. mod-lt (n - 1) l) 7 (nextOf (suc y)))
+even-lt m (suc y) l = simp (eqb·suc-zero y, ne-eqb m 0 (λ e. omega arith)) (from-all (λ d. d .number < m) m (λ n. mod-lt (n - 1) l) _ (nextOf (suc y)))
