@@ -191,7 +191,7 @@ typedef struct {
  * leave 0 in every table up to its full size, a refused sheet leaves every table as it was, and a walk leaves its end. Where a table or out is
  * shorter than its full size, the call is refused for reason 1 and changes nothing.
  */
-ngi_run_answer ngi_run(const uint8_t *input, size_t input_length, /* the four lines of a sheet, then clause text */
+ngi_run_answer ngi_run(const uint8_t *input, size_t input_length, /* the lines of a sheet, then clause text */
                        NGI_TABLE_PARAMETERS(NGI_WRITTEN),
                        uint8_t *out, size_t out_length);          /* at least NGI_OUT_SIZE */
 

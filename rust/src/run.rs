@@ -3,9 +3,9 @@
 use crate::error::Error;
 use crate::sys::{self, Lent, OUT_SIZE};
 
-/// What the program prints for an order sheet: four lines of numbers, then the clause text. A refused
-/// sheet or text is no error: its reason is printed. The call itself is refused only for a short table
-/// or a short buffer, and here none is short.
+/// What the program prints for an order sheet: four lines of numbers, the line `choice=even` or none,
+/// then the clause text. A refused sheet or text is no error: its reason is printed. The call itself is
+/// refused only for a short table or a short buffer, and here none is short.
 ///
 /// ```
 /// let printed = ngiyarumba::run("seed=1\nflips=10\nwalks=1\nbias=400\na b\n~a b\n")?;
