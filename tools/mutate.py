@@ -147,7 +147,8 @@ def errors(copy):
     """The names of the files in which the check finds an error; none where the crate is proved."""
     run = subprocess.run(["rt", "dev", "written"], cwd=copy, capture_output=True, text=True)
     said = run.stdout + run.stderr
-    return [] if "logic=proved" in said else re.findall(r"specs/(\w+)\.antt:\d+:\d+: error", said) or ["?"]
+    verdicts = re.findall(r"logic=(\S+)", said)  # the last is of `written` itself: what it stands on is proved before it where need be
+    return [] if verdicts[-1:] == ["proved"] else re.findall(r"specs/(\w+)\.antt:\d+:\d+: error", said) or ["?"]
 
 
 def same(name, old, new):
@@ -178,6 +179,8 @@ def main():
     with tempfile.TemporaryDirectory() as place:
         copy = Path(place) / "copy"
         shutil.copytree(ROOT, copy, ignore=shutil.ignore_patterns(".git", "cargo", "wrong", "must-fail"))
+        if found := errors(copy):
+            sys.exit("mutate.py: with no edit at all `written` is not proved: error in " + found[0])
         for name in chosen:
             for old, new in EDITS[name]:
                 verdict = judge(copy, name, old, new)
