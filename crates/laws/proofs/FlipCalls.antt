@@ -74,7 +74,7 @@ module _ (lim : Limits) (s : State) (t : Tables) (v : Valid lim s) where
       ∙ getD-listOf (length (s .file .clauses)) c (placeIn (s .uncovered)) 0 l ∙ rw e refl
 
 module _ (lim : Limits) (a b : State) (t : Tables) (va : Valid lim a) (vb : Valid lim b) (o : SameButOrder a b) where
-  same-counts : countsOf a ≡ countsOf b
+  pub same-counts : countsOf a ≡ countsOf b
   unfolding countsOf
   same-counts =
       λ i. record {
@@ -92,7 +92,7 @@ module _ (lim : Limits) (a b : State) (t : Tables) (va : Valid lim a) (vb : Vali
       by-lt c (length (a .file .clauses)) (λ l. no-place lim a t va c l e ∙ sym (no-place lim b t vb c (omega arith) has-no))
       (λ l. holding-past lim a b t Places va vb c l (omega arith))
 
-  same-tables : SameButList (length (a .uncovered)) (holding lim a t) (holding lim b t)
+  pub same-tables : SameButList (length (a .uncovered)) (holding lim a t) (holding lim b t)
   unfolding holding tablesOf each inUse sizes countsOf
   same-tables =
       record {
@@ -133,7 +133,7 @@ refusalIn (F.Refused e) = e
 
 module _ (lim : Limits) (ts : List ℕ) (n : Counts) (t : Tables) where
   -- all tests are passed, or one fails
-  tests : {A : Type 0} → (Acceptable lim ts n t → A) → ((r : Reason) → Fails lim ts n t r → A) → A
+  pub tests : {A : Type 0} → (Acceptable lim ts n t → A) → ((r : Reason) → Fails lim ts n t r → A) → A
   tests pass fail =
       by-cases (areFull lim t)
       (λ a. by-lt (lim .list) (length ts) (λ b. fail _ (long a b))
@@ -142,7 +142,7 @@ module _ (lim : Limits) (ts : List ℕ) (n : Counts) (t : Tables) where
       (λ d. fail _ (disagree a b d))))
       (λ a. fail _ (short a))
 
-  failed : (r : Reason) → Fails lim ts n t r → flipsOf lim ts n t ≡ flipsRefused n t r
+  pub failed : (r : Reason) → Fails lim ts n t r → flipsOf lim ts n t ≡ flipsRefused n t r
   unfolding flipsOf
   failed _ (short a) = rw a refl
   failed _ (long a b) = rw (a, lt-ltb (lim .list) (length ts) b) refl
@@ -157,26 +157,26 @@ module _ (lim : Limits) (ts : List ℕ) (n : Counts) (t : Tables) where
   passed h = rw (h .full, le-ltb (lim .list) (length ts) (h .short), h .agrees, h .known) refl
 
   module _ (h : Acceptable lim ts n t) where
-    applied : flipsOf lim ts n t .answer ≡ F.Applied (countsOf (flipped ts (stateIn n t)))
+    pub applied : flipsOf lim ts n t .answer ≡ F.Applied (countsOf (flipped ts (stateIn n t)))
     unfolding flipsLeave
     applied = ap (λ (l : Leaves Flipped). l .answer) (passed h)
 
-    left : flipsOf lim ts n t .tables ≡ holding lim (flipped ts (stateIn n t)) t
+    pub left : flipsOf lim ts n t .tables ≡ holding lim (flipped ts (stateIn n t)) t
     unfolding flipsLeave
     left = ap (λ (l : Leaves Flipped). l .tables) (passed h)
 
     -- the state that was flipped, and the state that stands
-    before-valid : Valid lim (stateIn n t)
+    pub before-valid : Valid lim (stateIn n t)
     before-valid = agree-valid lim n t (h .agrees) (h .full)
 
-    before-counts : countsOf (stateIn n t) ≡ n
+    pub before-counts : countsOf (stateIn n t) ≡ n
     before-counts = agree-counts lim n t (h .agrees) (h .full)
 
-    names-known : all (λ v. ltb v (length (stateIn n t .file .names))) ts ≡ true
+    pub names-known : all (λ v. ltb v (length (stateIn n t .file .names))) ts ≡ true
     unfolding countsOf
     names-known = ap (λ (m : Counts). all (λ v. ltb v (m .terms)) ts) before-counts ∙ h .known
 
-    after-valid : Valid lim (flipped ts (stateIn n t))
+    pub after-valid : Valid lim (flipped ts (stateIn n t))
     after-valid = flipped-valid lim ts (stateIn n t) before-valid names-known
 
   -- accepted exactly if all that is asked of a call holds

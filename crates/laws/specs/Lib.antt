@@ -5,6 +5,7 @@ pub mod Reasons
 pub mod Demands
 pub mod ReadCalls
 pub mod FlipCalls
+pub mod Joined
 pub mod WalkCalls
 pub mod Sheets
 pub mod RunCalls
