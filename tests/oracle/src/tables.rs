@@ -80,6 +80,13 @@ impl Tables {
         self.write_over(limits, &Tables::zeros(limits));
     }
 
+    /// Without what two lists may leave apart that name each term equally often: "the order within the uncovered list, and the places noted for it".
+    pub fn without_list_order(mut self, counts: &Counts) -> Tables {
+        self.uncovered[..counts.uncovered as usize].sort_unstable();
+        self.places.clear();
+        self
+    }
+
     /// Writes full-size tables over these lent ones; "the excess is never read or written".
     pub fn write_over(&mut self, limits: &Limits, full: &Tables) {
         let pairs = self.all_mut().into_iter().zip(full.all());

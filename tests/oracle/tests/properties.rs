@@ -22,6 +22,9 @@ use oracle::{run, run_on, Counts, Limits, Tables};
 /// Cases under the limits of document 01, and under limits that small texts meet.
 const SCALES: [(Limits, u64); 2] = [(NARROW, 400), (SMALL, 3_000)];
 
+/// Cuts of each flip list, over 5,000 in all.
+const CUTS: usize = 2;
+
 /// The four counts and the ten tables of a call.
 type Lent = (Counts, Tables);
 
@@ -210,17 +213,10 @@ fn flipped(limits: &Limits, random: &mut Random) -> Flipped {
     }
 }
 
-fn without_list_order(counts: &Counts, tables: &Tables) -> Tables {
-    let mut sorted = tables.clone();
-    sorted.uncovered[..counts.uncovered as usize].sort_unstable();
-    sorted.places.clear();
-    sorted
-}
-
 /// "only the order within the uncovered list, and the places noted for it, may differ"
 fn assert_same_but_for_order(one: Lent, other: Lent) {
     assert_eq!(one.0, other.0);
-    assert!(without_list_order(&one.0, &one.1) == without_list_order(&other.0, &other.1));
+    assert!(one.1.without_list_order(&one.0) == other.1.without_list_order(&other.0));
 }
 
 fn for_each_flip(check: impl Fn(&Limits, &mut Random, Flipped)) {
@@ -252,11 +248,14 @@ fn a_list_given_twice_restores_the_values() {
 #[test]
 fn a_list_may_be_cut_anywhere_and_its_parts_given_in_order() {
     for_each_flip(|limits, random, case| {
-        let (first, second) = case.list.split_at(random.between(0, case.list.len()));
-        let (counts, mut tables) = case.before;
-        let middle = flip(limits, first, counts, &mut tables);
-        let end = flip(limits, second, middle.counts, &mut tables);
-        assert!((end.counts, tables) == case.after);
+        for _ in 0..CUTS {
+            let (first, second) = case.list.split_at(random.between(0, case.list.len()));
+            let (counts, mut tables) = case.before.clone();
+            let middle = flip(limits, first, counts, &mut tables);
+            let end = flip(limits, second, middle.counts, &mut tables);
+            assert_eq!([middle.result, end.result], [1, 1]);
+            assert!((end.counts, tables) == case.after);
+        }
     });
 }
 

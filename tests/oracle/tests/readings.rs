@@ -578,3 +578,28 @@ fn point_34_the_modes_differ_but_among_one() {
         assert_eq!(choice_even(state, among), choice(state, among));
     }
 }
+
+#[test]
+fn point_35_a_list_given_twice_brings_back_the_set_and_not_the_order() {
+    let (counts, read) = accepted("a\nb\nc\n");
+    let mut tables = read.clone();
+    let once = flip(&NARROW, &[0], counts, &mut tables);
+    let twice = flip(&NARROW, &[0], once.counts, &mut tables);
+    assert_eq!((twice.result, twice.counts), (1, counts));
+    assert_eq!(read.uncovered[..3], [0, 1, 2]);
+    assert_eq!(tables.uncovered[..3], [2, 1, 0]);
+    assert_eq!(tables.places[..3], [2, 1, 0]);
+    let mut joined = read.clone();
+    flip(&NARROW, &[0, 0], counts, &mut joined);
+    assert!(joined == tables);
+    let longest = vec![1; NARROW.list];
+    for _ in 0..2 {
+        assert_eq!(flip(&NARROW, &longest, counts, &mut tables).reason, 0);
+    }
+    let too_long = longest.repeat(2);
+    assert_eq!(flip(&NARROW, &too_long, counts, &mut tables).reason, 14);
+    tables.trues[0] = 1;
+    let broken = tables.clone();
+    assert_eq!(flip(&NARROW, &[], counts, &mut tables).reason, 12);
+    assert!(tables == broken);
+}
