@@ -171,7 +171,9 @@ typedef struct {
 /*
  * Turns the value of each term that the list names, in its order, and brings true counts, break counts, uncovered list and places up to
  * date; the other tables are only read. The empty list is applied too. The whole list is looked at before any flip: a list is applied
- * whole or refused whole, and a refused one leaves every table as it was. Reasons are tested in the order 1, 14, 12, 13.
+ * whole or refused whole, and a refused one leaves every table as it was. Two lists in turn leave what the joined list leaves, if that is
+ * not over NGI_LIST; a list given twice leaves what stood, but for the order within the uncovered list and the places noted for it. Reasons
+ * are tested in the order 1, 14, 12, 13.
  */
 ngi_flip_answer ngi_flip(const uint16_t *list, size_t list_length, /* term numbers; over NGI_LIST is reason 14 */
                          uint32_t terms, uint32_t clauses,         /* the counts that the last call gave, */

@@ -99,7 +99,9 @@ impl Tables {
     }
 
     /// Turns the value of each term that the list names by its number, one after the other. The list
-    /// is applied whole, or refused whole, which changes nothing.
+    /// is applied whole, or refused whole, which changes nothing. Two lists in turn leave what the joined
+    /// list leaves, if it is not too long; a list given twice leaves what stood, but for the order of
+    /// [`uncovered`](Tables::uncovered).
     ///
     /// ```
     /// # use ngiyarumba::Tables;
@@ -108,6 +110,7 @@ impl Tables {
     /// let b = tables.number_of("b").unwrap();
     /// assert_eq!(tables.flip(&[b])?.uncovered, 0);
     /// assert_eq!(tables.answer().as_deref(), Some("~a b"));
+    /// assert_eq!(tables.flip(&[b])?.uncovered, 1); // given twice: as read
     /// # Ok::<(), ngiyarumba::Error>(())
     /// ```
     pub fn flip(&mut self, list: &[u16]) -> Result<Counts, Error> {
