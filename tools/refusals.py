@@ -1,8 +1,8 @@
 #!/usr/bin/env python3
 """refusals.py: every edit was refused at a fact, by the prover's own words in target/must-fail and target/wrong, and not for its shape. Last line: 'N refusals'.
 
-An edit that does not fit its proof (a field, a need or a name that is not there, an argument too many, nothing for an `rw` or a `simp` to rewrite) would be
-refused whatever it says."""
+An edit that does not fit its proof or its definition (a field, a need or a name that is not there, an argument too many, a value of another type, nothing for an
+`rw` or a `simp` to rewrite) would be refused whatever it says."""
 import sys
 
 sys.dont_write_bytecode = True  # nothing is written into the tree

@@ -12,6 +12,7 @@ SHAPE = (
     r"has no (field )?`|is not in scope|is not a constructor of|can be named from here|too many arguments|is not a function|is a reserved word|unexpected"
     r"|not determined by the signature|no occurrence of the path's left endpoint|no equation of the list has an instance|expected type `tie\.Need-"
     r"|first differ where one has `\S+\.Lts\.(After-|Then)"
+    r"|expected type `\w+`, but this has type `\w+`"
 )
 
 
