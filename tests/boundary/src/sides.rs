@@ -43,9 +43,14 @@ impl Sides {
     }
 
     /// Lends the same to both; counts cross in 32 bits, so only these are kept.
-    pub fn lend(&mut self, case: String, (counts, tables): Lent) {
+    pub fn lend(&mut self, case: String, lent: Lent) {
         self.case = case;
         self.calls = 0;
+        self.lend_instead(lent);
+    }
+
+    /// Lends other counts and tables in the same case.
+    pub fn lend_instead(&mut self, (counts, tables): Lent) {
         self.counts = low_32_bits(counts);
         self.tables = tables;
         let lent = self.host.lend(&self.tables);
