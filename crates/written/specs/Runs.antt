@@ -10,7 +10,7 @@ use Rattle.written.specs.Limits.{Limits}
 use Rattle.written.specs.Tables.{Tables}
 use Rattle.written.specs.Sheet.{SheetValues, sheetOf, sheetValues}
 use Rattle.written.specs.Program.{Ran, reported, runOf}
-use Rattle.written.specs.Calls.{sevens, given, zero, holding, changed}
+use Rattle.written.specs.Calls.{sevens, given, free, zero, holding, changed}
 use Rattle.written.specs.Computing.{computing, Example, _tells_, Tells}
 
 -- the small limits, with room for a sheet in the text
@@ -21,16 +21,24 @@ roomy = record { text = 48; terms = 3; clauses = 3; literals = 5; list = 4 }
 abbrev pub buffer : List ℕ
 buffer = sevens 95
 
+-- marks as lent, and as a reading leaves them
+abbrev pub marked : List ℕ
+marked = sevens 4
+
 abbrev pub running : String → Tables → List ℕ → Ran
-running input t b = runOf roomy (bytes input) t b
+running input t b = runOf roomy (bytes input) t marked b
 
 -- these bytes stand first in the buffer
+abbrev pub leavesWith : List ℕ → String → Tables → Ran
+leavesWith ms s t = record { answer = reported (length (bytes s)); tables = t; marks = ms; buffer = bytes s ++ drop (length (bytes s)) buffer }
+
+-- the marks are 0 after a reading
 abbrev pub leaves : String → Tables → Ran
-leaves s t = record { answer = reported (length (bytes s)); tables = t; buffer = bytes s ++ drop (length (bytes s)) buffer }
+leaves s t = leavesWith free s t
 
 -- refused by 1: all unchanged
-abbrev pub nothing : Tables → List ℕ → Ran
-nothing t b = record { answer = record { result = 0; reason = 1; length = 0 }; tables = t; buffer = b }
+abbrev pub nothing : Tables → List ℕ → List ℕ → Ran
+nothing t ms b = record { answer = record { result = 0; reason = 1; length = 0 }; tables = t; marks = ms; buffer = b }
 
 abbrev pub table : List (Example Ran)
 table =
@@ -41,15 +49,16 @@ table =
     -- "The program tests 2 on its whole input": tables 0
     ∷ (running "seed=0\nflips=10\nwalks=1\nbias=400\na b\n~a b\nc a b\n~c\n" given buffer tells leaves "result=refused\nreason=2\nline=0\n" zero)
     -- a refused sheet: "nothing begun"
-    ∷ (running "seed=0\nflips=10\nwalks=1\nbias=400\na b\n" given buffer tells leaves "result=refused\nreason=11\nline=1\n" given)
-    ∷ (running "seed=1\nflips=10\nwalks=1\n" given buffer tells leaves "result=refused\nreason=10\nline=4\n" given)
-    ∷ (running "seed=1\nflips=10\nwalks=1\nbias=400\nchoice=a\n" given buffer tells leaves "result=refused\nreason=10\nline=5\n" given)
+    ∷ (running "seed=0\nflips=10\nwalks=1\nbias=400\na b\n" given buffer tells leavesWith marked "result=refused\nreason=11\nline=1\n" given)
+    ∷ (running "seed=1\nflips=10\nwalks=1\n" given buffer tells leavesWith marked "result=refused\nreason=10\nline=4\n" given)
+    ∷ (running "seed=1\nflips=10\nwalks=1\nbias=400\nchoice=a\n" given buffer tells leavesWith marked "result=refused\nreason=10\nline=5\n" given)
     -- a refused text: tables 0
     ∷ (running "seed=1\nflips=10\nwalks=1\nbias=400\na b\n~a\tb\n" given buffer tells leaves "result=refused\nreason=4\nline=2\n" zero)
     ∷ (running "seed=1\nflips=10\nwalks=1\nbias=400\n" given buffer tells leaves "result=refused\nreason=9\nline=0\n" zero)
     -- a table or the buffer too short
-    ∷ (running "seed=1\nflips=10\nwalks=1\nbias=400\na b\n" (changed 9 (drop 2) given) buffer tells nothing (changed 9 (drop 2) given) buffer)
-    ∷ (running "seed=1\nflips=10\nwalks=1\nbias=400\na b\n" given (sevens 93) tells nothing given (sevens 93))
+    ∷ (running "seed=1\nflips=10\nwalks=1\nbias=400\na b\n" (changed 9 (drop 2) given) buffer tells nothing (changed 9 (drop 2) given) marked buffer)
+    ∷ (running "seed=1\nflips=10\nwalks=1\nbias=400\na b\n" given (sevens 93) tells nothing given marked (sevens 93))
+    ∷ (runOf roomy (bytes "seed=1\nflips=10\nwalks=1\nbias=400\na b\n") given (sevens 2) buffer tells nothing given (sevens 2) buffer)
     ∷ []
 
 pub shown : Tells table
