@@ -2,7 +2,7 @@
 -- So an order without the fifth line, which chooses by the remainder (Modes), walks as document 01 says. Assumes nothing.
 use Prim.Native.Nat.{ℕ, zero, suc}
 use mathlib.Core.Path.{_≡_, refl, sym, ap, ap₂, _∙_}
-use mathlib.Core.Bool.{cond}
+use mathlib.Core.Bool.{Bool, cond}
 use mathlib.Core.List.{List, [], _∷_}
 use lib.ListN.{length}
 use lib.Dec.{eqb, ltb}
@@ -11,7 +11,7 @@ use Rattle.draw.specs.Draw.{choiceOf, headsOf}
 use Rattle.written.specs.declared.Order.{Order}
 use Rattle.written.specs.Clauses.{File, State, asRead}
 use Rattle.written.specs.Drawing.{Pick, choice, heads, entryAt, chosenFrom}
-use Rattle.written.specs.Walk.{Moment, Outcome, start, isFound, leastBreak, atLeast, oneOf, afterHeads, literalIn, flipPicked, inClause, step, onwards, foundOr, walksFrom, walkOver}
+use Rattle.written.specs.Walk.{Moment, Outcome, start, isFound, leastBreak, atLeast, oneOf, afterHeads, literalIn, flipPicked, clausePicked, lookedAt, inClause, step, isStuck, stuckAt, onwards, foundOr, walksFrom, walkOver}
 use Rattle.laws.proofs.Modes.{remainder}
 
 -- the same four numbers
@@ -46,32 +46,44 @@ module _ (o p : Order) (same : SameNumbers o p) (alike : (m y : ℕ) → choice 
       let ties : List ℕ = atLeast s (leastBreak s ls) ls in
       ap₂ {C = Pick} (cond (ltb 0 (leastBreak s ls))) (ap (afterHeads o ls ties) (heads-alike y) ∙ after-alike ls ties (heads p y)) (one-alike ties y)
 
-  step-alike : (m : Moment) → step o m ≡ step p m
-  unfolding step inClause
-  step-alike m =
-      ap (inClause o m) (from-alike (m .state .uncovered) (m .generator))
+  stuck-alike : (ms : List ℕ) (m : Moment) → isStuck o ms m ≡ isStuck p ms m
+  unfolding isStuck clausePicked
+  stuck-alike ms m = ap (λ (c : Pick). eqb (length (lookedAt ms m c)) 0) (from-alike (m .state .uncovered) (m .generator))
+
+  end-alike : (m : Moment) → stuckAt o m ≡ stuckAt p m
+  unfolding stuckAt clausePicked
+  end-alike m = ap (λ (c : Pick). record { state = m .state; generator = c .state; flips = m .flips }) (from-alike (m .state .uncovered) (m .generator))
+
+  step-alike : (ms : List ℕ) (m : Moment) → step o ms m ≡ step p ms m
+  unfolding step inClause clausePicked
+  step-alike ms m =
+      ap (inClause o ms m) (from-alike (m .state .uncovered) (m .generator))
       ∙ ap (flipPicked m) (literal-alike (m .state) _ _)
 
-  onwards-alike : (k : ℕ) (m : Moment) → onwards o k m ≡ onwards p k m
+  onwards-alike : (ms : List ℕ) (k : ℕ) (m : Moment) → onwards o ms k m ≡ onwards p ms k m
   unfolding onwards
-  onwards-alike zero m = refl
-  onwards-alike (suc k) m = ap (cond (isFound (m .state)) m) (ap (onwards o k) (step-alike m) ∙ onwards-alike k (step p m))
+  onwards-alike ms zero m = refl
+  onwards-alike ms (suc k) m =
+      let goes : onwards o ms k (step o ms m) ≡ onwards p ms k (step p ms m) = ap (onwards o ms k) (step-alike ms m) ∙ onwards-alike ms k (step p ms m) in
+      ap (cond (isFound (m .state)) m)
+      (ap (λ (b : Bool). cond b (stuckAt o m) (onwards o ms k (step o ms m))) (stuck-alike ms m)
+      ∙ ap₂ {C = Moment} (cond (isStuck p ms m)) (end-alike m) goes)
 
-  walks-alike : (k n : ℕ) (m : Moment) → walksFrom o k n m ≡ walksFrom p k n m
+  walks-alike : (ms : List ℕ) (k n : ℕ) (m : Moment) → walksFrom o ms k n m ≡ walksFrom p ms k n m
   unfolding walksFrom
-  walks-alike zero n m = refl
-  walks-alike (suc k) n m =
-      let e : Moment = onwards p (p .flips) (start m) in
-      let ends : onwards o (o .flips) (start m) ≡ e = ap (λ (j : ℕ). onwards o j (start m)) (same .flips) ∙ onwards-alike (p .flips) (start m) in
-      ap (λ (x : Moment). foundOr (suc n) x (λ x. walksFrom o k (suc n) x)) ends
-      ∙ ap (λ (x : Outcome). foundOr (suc n) e (λ _. x)) (walks-alike k (suc n) e)
+  walks-alike ms zero n m = refl
+  walks-alike ms (suc k) n m =
+      let e : Moment = onwards p ms (p .flips) (start ms m) in
+      let ends : onwards o ms (o .flips) (start ms m) ≡ e = ap (λ (j : ℕ). onwards o ms j (start ms m)) (same .flips) ∙ onwards-alike ms (p .flips) (start ms m) in
+      ap (λ (x : Moment). foundOr (suc n) x (λ x. walksFrom o ms k (suc n) x)) ends
+      ∙ ap (λ (x : Outcome). foundOr (suc n) e (λ _. x)) (walks-alike ms k (suc n) e)
 
-  pub walk-alike : (f : File) → walkOver o f ≡ walkOver p f
+  pub walk-alike : (ms : List ℕ) (f : File) → walkOver o ms f ≡ walkOver p ms f
   unfolding walkOver
-  walk-alike f =
-      ap₂ {C = Outcome} (λ k y. walksFrom o k 0 (record { state = asRead f; generator = y; flips = 0 })) (same .walks) (same .seed)
-      ∙ walks-alike (p .walks) 0 (record { state = asRead f; generator = p .seed; flips = 0 })
+  walk-alike ms f =
+      ap₂ {C = Outcome} (λ k y. walksFrom o ms k 0 (record { state = asRead f; generator = y; flips = 0 })) (same .walks) (same .seed)
+      ∙ walks-alike ms (p .walks) 0 (record { state = asRead f; generator = p .seed; flips = 0 })
 
 -- "Without the line all stays": a walk without it is that of any order of these numbers whose choices are document 01's
-pub walk-stays : (o p : Order) → SameNumbers o p → o .even ≡ 0 → ((m y : ℕ) → choice p m y ≡ choiceOf m y) → (f : File) → walkOver o f ≡ walkOver p f
+pub walk-stays : (o p : Order) → SameNumbers o p → o .even ≡ 0 → ((m y : ℕ) → choice p m y ≡ choiceOf m y) → (ms : List ℕ) (f : File) → walkOver o ms f ≡ walkOver p ms f
 walk-stays o p same off plain = walk-alike o p same (λ m y. remainder o m y off ∙ sym (plain m y))

@@ -56,7 +56,7 @@ module _ (lim : Limits) (input : List ℕ) where
   unfolding afterReading
   text-course s e b q = begun-course s b ∙ ap (afterReading (s .order)) q
 
-  pub walk-course : (s : Sheet) (f : File) → Begun lim input s → readText lim (textAfter s input) ≡ accepted f → courseOf lim input ≡ walked (walkOver (s .order) f)
+  pub walk-course : (s : Sheet) (f : File) → Begun lim input s → readText lim (textAfter s input) ≡ accepted f → courseOf lim input ≡ walked (walkOver (s .order) [] f)
   unfolding afterReading
   walk-course s f b q = begun-course s b ∙ ap (afterReading (s .order)) q
 
@@ -64,7 +64,7 @@ module _ (lim : Limits) (input : List ℕ) where
   module _ (P : Course → Type 0) (long : lim .text < length input → P (unread (fault TextTooLong)))
       (sheet : (e : Fault) → length input ≤ lim .text → sheetOf input ≡ O.Refused e → P (unbegun (O.Refused e)))
       (text : (s : Sheet) (e : Fault) → Begun lim input s → readText lim (textAfter s input) ≡ refused e → P (unread e))
-      (walk : (s : Sheet) (f : File) → Begun lim input s → readText lim (textAfter s input) ≡ accepted f → P (walked (walkOver (s .order) f))) where
+      (walk : (s : Sheet) (f : File) → Begun lim input s → readText lim (textAfter s input) ≡ accepted f → P (walked (walkOver (s .order) [] f))) where
     by-reading : (s : Sheet) (r : Reading) → Begun lim input s → readText lim (textAfter s input) ≡ r → P (courseOf lim input)
     by-reading s (accepted f) b q = rw (walk-course s f b q) (walk s f b q)
     by-reading s (refused e) b q = rw (text-course s e b q) (text s e b q)

@@ -13,7 +13,7 @@ use Rattle.words.specs.Words.{stateAfter, wordCount}
 use Rattle.written.specs.declared.Order.{Order}
 use Rattle.written.specs.Clauses.{File, State}
 use Rattle.written.specs.Drawing.{Pick, choice, heads, chosenFrom, startState}
-use Rattle.written.specs.Walk.{Moment, start, step, leastBreak, atLeast, oneOf, afterHeads, literalIn, flipPicked, inClause, walkOver}
+use Rattle.written.specs.Walk.{Moment, start, step, leastBreak, atLeast, oneOf, afterHeads, literalIn, flipPicked, clausePicked, inClause, stuckAt, walkOver}
 use Rattle.laws.proofs.Basics.{by-test}
 use Rattle.laws.proofs.Walks.{begun}
 use Rattle.laws.proofs.Endings.{walks-keep}
@@ -53,17 +53,23 @@ module _ (P : ℕ → Type 0) (next : (y : ℕ) → P y → P (nextOf y)) where
       (λ _. by-test (λ (p : Pick). P (p .state)) (eqb (d .number) 1) (λ _. from-keeps o ls (d .next .state) k) (λ _. one-keeps o ties (d .next .state) k))
       (λ _. one-keeps o ties y h)
 
-  pub step-keeps : (o : Order) (m : Moment) → P (m .generator) → P (step o m .generator)
-  unfolding step inClause flipPicked
-  step-keeps o m h = literal-keeps o (m .state) _ _ (from-keeps o (m .state .uncovered) (m .generator) h)
+  pub step-keeps : (o : Order) (ms : List ℕ) (m : Moment) → P (m .generator) → P (step o ms m .generator)
+  unfolding step inClause flipPicked clausePicked
+  step-keeps o ms m h = literal-keeps o (m .state) _ _ (from-keeps o (m .state .uncovered) (m .generator) h)
 
-  pub start-keeps : (m : Moment) → P (m .generator) → P (start m .generator)
+  -- "if the chosen clause has none": its draw was made
+  pub stuck-keeps : (o : Order) (m : Moment) → P (m .generator) → P (stuckAt o m .generator)
+  unfolding stuckAt clausePicked
+  stuck-keeps o m h = from-keeps o (m .state .uncovered) (m .generator) h
+
+  pub start-keeps : (ms : List ℕ) (m : Moment) → P (m .generator) → P (start ms m .generator)
   unfolding start startState
-  start-keeps m h = after-keeps (m .generator) (wordCount (length (m .state .file .names))) h
+  start-keeps ms m h = after-keeps (m .generator) (wordCount (length (m .state .file .names))) h
 
-  pub end-keeps : (o : Order) (f : File) → P (o .seed) → P (walkOver o f .last .generator)
+  pub end-keeps : (o : Order) (ms : List ℕ) (f : File) → P (o .seed) → P (walkOver o ms f .last .generator)
   unfolding walkOver
-  end-keeps o f h = walks-keep (λ m. P (m .generator)) o (λ m q k. step-keeps o m k) start-keeps (o .walks) 0 (begun o f) h
+  end-keeps o ms f h =
+      walks-keep (λ m. P (m .generator)) o ms (λ m q r k. step-keeps o ms m k) (stuck-keeps o) (start-keeps ms) (o .walks) 0 (begun o f) h
 
 -- ---- the state is not 0: each move of a walk from such a state leaves one
 
@@ -71,9 +77,9 @@ pub literal-pos : (o : Order) (s : State) (ls : List ℕ) (y : ℕ) → 0 < y �
 literal-pos = literal-keeps (λ y. 0 < y) next-pos
 
 -- from a seed that is not 0 the walks end at a state that is not 0
-pub end-pos : (o : Order) (f : File) → 0 < o .seed → 0 < walkOver o f .last .generator
+pub end-pos : (o : Order) (ms : List ℕ) (f : File) → 0 < o .seed → 0 < walkOver o ms f .last .generator
 end-pos = end-keeps (λ y. 0 < y) next-pos
 
 -- and the state of 32 bits stays one
-pub end-fits : (o : Order) (f : File) → o .seed < 2 ^ 32 → walkOver o f .last .generator < 2 ^ 32
+pub end-fits : (o : Order) (ms : List ℕ) (f : File) → o .seed < 2 ^ 32 → walkOver o ms f .last .generator < 2 ^ 32
 end-fits = end-keeps (λ y. y < 2 ^ 32) next-fits

@@ -1,17 +1,18 @@
 -- The excess is never read: on tables that are the same up to their full sizes each call answers the same and leaves the same up to them.
 -- Such tables are judged alike, whether or not they are full or agree. Assumes nothing.
-use Prim.Native.Nat.{ℕ, _+_, _-_, _/_, _%_, _≤_, _<_}
+use Prim.Native.Nat.{ℕ, zero, suc, _+_, _-_, _/_, _%_, _≤_, _<_}
 use mathlib.Core.Path.{_≡_, refl, ap, ap₂, sym, subst₂, _∙_}
-use mathlib.Core.Bool.{Bool, true, false, not, cond, _||_}
-use mathlib.Core.List.{List, []}
+use mathlib.Core.Bool.{Bool, true, false, not, cond, _&&_, _||_}
+use mathlib.Core.List.{List, [], _∷_}
 use native.Mathlib.Omega.{arith}
-use lib.ListN.{length, getD, take, drop, length-take}
+use lib.ListN.{length, getD, set, take, drop, length-take}
 use lib.Seq.{length-take-le, take-take, getD-take}
 use lib.Dec.{eqb, ltb}
-use borrow.Author.Tests.{not-false}
+use borrow.Author.Tests.{not-false, lt-ltb, ltb-true, le-leb, leb-true}
 use Rattle.words.specs.Words.{bitOf, bitAt, wordCount}
 use Rattle.written.specs.declared.Counts.{Counts}
 use Rattle.written.specs.declared.Order.{Order}
+use Rattle.written.specs.declared.Flipped.{Flipped}
 use Rattle.written.specs.Lists.{all, listOf}
 use Rattle.written.specs.Limits.{Limits}
 use Rattle.written.specs.Clauses.{State, asRead}
@@ -21,22 +22,26 @@ use Rattle.written.specs.Flips.{flipped}
 use Rattle.written.specs.Walk.{walkOver}
 use Rattle.written.specs.Tables.{Tables, each, every, sizes, fullSizes, areFull, countsOf, holding, cleared}
 use Rattle.written.specs.Agreement.{partOf, fileIn, stateIn, agree}
-use Rattle.written.specs.Outcomes.{unchanged, readLeaves, readingOf, walkLeaves, walkOf, flipsLeave, flipsOf}
-use Rattle.written.specs.Program.{Ran, courseOf, reportSize, tablesAfter, ran, runOf}
+use Rattle.written.specs.Marks.{isFree, marksFull, fullMarked, unmarked, marksHold, marksRest, agreeMarked}
+use Rattle.written.specs.Outcomes.{Leaves, unchanged, readLeaves, readingOf, walkLeaves, walkOf, flipsLeave, flipsOf, termTested, valueAsked, flipsFor, pinOf, liftOf}
+use Rattle.written.specs.Program.{Ran, courseOf, reportSize, tablesAfter, marksAfter, ran, runOf}
 use Rattle.laws.specs.Valid.{Valid}
-use Rattle.laws.specs.Excess.{SameInFull, SameCall, withTables, cut}
-use Rattle.laws.proofs.Basics.{same-tests}
+use Rattle.laws.specs.Excess.{SameInFull, SameMarks, SameCall, withTables, cut}
+use Rattle.laws.specs.PinCalls.{statePinned}
+use Rattle.laws.proofs.Basics.{by-test, both-first, both-second, same-tests}
 use Rattle.laws.proofs.Lists.{listFrom-length, listOf-is, getD-listOf, drop-take}
 use Rattle.laws.proofs.Parts.{up-to-last}
 use Rattle.laws.proofs.Kept.{flipped-valid}
 use Rattle.laws.proofs.Each.{Table, at, by-each, each-at}
 use Rattle.laws.proofs.Each.Table.{Names, Values, Starts, Literals, Uncovered}
 use Rattle.laws.proofs.Sizes.{Fit, sizes-fit}
+use Rattle.laws.proofs.Marks.{holds-by, unmarked-take, full-tables, full-marks, full-both, agree-tables, agree-hold, agree-rest, agree-all}
 use Rattle.laws.proofs.Holding.{full-at, full-all, holding-take, cleared-take}
 use Rattle.laws.proofs.Points.{Points, agree-points, points-agree}
 use Rattle.laws.proofs.Agreeing.{agree-valid, agree-counts}
 use Rattle.laws.proofs.Readings.{reading-proper, reading-valid}
 use Rattle.laws.proofs.Valids.{end-valid}
+use Rattle.laws.proofs.Pins.{walk-by}
 use Rattle.laws.proofs.Courses.{by-course}
 
 -- ---- lists that are the same up to n entries
@@ -132,6 +137,13 @@ module _ (lim : Limits) (t u : Tables) (same : SameInFull lim t u) where
       let p = agree-points lim n t h in
       points-agree lim n u (subst₂ (λ s w. Points lim n u s w) (state-same n p) (used-same n (p .fit)) (points-too n p))
 
+-- an entry changed, and then cut
+take-set : (n k m : ℕ) (xs : List ℕ) → take n (set xs k m) ≡ set (take n xs) k m
+take-set zero k m xs = refl
+take-set (suc n) k m [] = refl
+take-set (suc n) zero m (x ∷ xs) = refl
+take-set (suc n) (suc k) m (x ∷ xs) = ap (λ (ys : List ℕ). x ∷ ys) (take-set n k m xs)
+
 -- ---- two calls, test by test
 
 -- a test that comes out alike on both sides, and what follows it
@@ -139,19 +151,16 @@ by-same : {L : Type 0} (R : L → L → Type 0) (b c : Bool) {x y v w : L} → b
 by-same R true c e r s = rw (sym e) r
 by-same R false c e r s = rw (sym e) (s refl)
 
--- two runs that leave the same but for the tables, and there the same up to the full sizes
+-- two runs that leave the same but for the tables and the marks, and there the same up to the full sizes
 record Alike (lim : Limits) (r q : Ran) : Type 0 where
-  others : withTables r (q .tables) ≡ q
+  others : withTables r (q .tables) (q .marks) ≡ q
   tables : SameInFull lim (r .tables) (q .tables)
+  marks : SameMarks lim (r .marks) (q .marks)
 
 alike-cut : (lim : Limits) (r q : Ran) → Alike lim r q → cut lim r ≡ cut lim q
-alike-cut lim r q h = ap (withTables r) (h .tables) ∙ ap (cut lim) (h .others)
+alike-cut lim r q h = ap₂ (withTables r) (h .tables) (h .marks) ∙ ap (cut lim) (h .others)
 
 module _ (lim : Limits) (t u : Tables) (same : SameInFull lim t u) where
-  -- what a call leaves that is refused, that writes a state, and that clears
-  as-was : {A : Type 0} (a : A) → SameCall lim (unchanged t a) (unchanged u a)
-  as-was a = record { answer = refl; tables = same }
-
   held : (s : State) → Valid lim s → SameInFull lim (holding lim s t) (holding lim s u)
   held s v = holding-take lim s t v ∙ sym (holding-take lim s u v)
 
@@ -167,57 +176,169 @@ module _ (lim : Limits) (t u : Tables) (same : SameInFull lim t u) where
   pub agree-same : (n : Counts) → agree lim n t ≡ agree lim n u
   agree-same n = same-tests _ _ (agree-too lim t u same n) (agree-too lim u t (sym same) n)
 
+-- the same of marks
+module _ (lim : Limits) (ms ns : List ℕ) (same : SameMarks lim ms ns) where
+  marks-too : marksFull lim ms ≡ true → marksFull lim ns ≡ true
+  unfolding marksFull
+  marks-too h = le-leb (lim .terms) (length ns) (long-same (lim .terms) ms ns same (leb-true (lim .terms) (length ms) h))
+
+  pub mark-same : (k : ℕ) → k < lim .terms → getD ms k 0 ≡ getD ns k 0
+  mark-same k l = entry-same (lim .terms) ms ns same k l
+
+  rest-same : (n : Counts) → marksRest lim n ms ≡ marksRest lim n ns
+  unfolding marksRest
+  rest-same n = ap (λ (xs : List ℕ). all (λ m. eqb m 0) (drop (n .terms) xs)) same
+
+  free-same : (n : ℕ) (ts : List ℕ) → n ≤ lim .terms → all (λ v. ltb v n) ts ≡ true → all (isFree ms) ts ≡ all (isFree ns) ts
+  unfolding isFree
+  free-same n [] few known = refl
+  free-same n (t ∷ ts) few known =
+      let one = ltb-true t n (both-first (ltb t n) (all (λ v. ltb v n) ts) known) in
+      ap₂ {C = Bool} (λ a b. a && b) (ap (λ m. eqb m 0) (mark-same t (omega arith))) (free-same n ts few (both-second (ltb t n) (all (λ v. ltb v n) ts) known))
+
+  cleared-same : SameMarks lim (unmarked lim ms) (unmarked lim ns)
+  cleared-same = unmarked-take lim ms ∙ sym (unmarked-take lim ns)
+
+-- tables and marks together, the one way
+module _ (lim : Limits) (t u : Tables) (ms ns : List ℕ) (same : SameInFull lim t u) (marks : SameMarks lim ms ns) where
+  both-too : fullMarked lim t ms ≡ true → fullMarked lim u ns ≡ true
+  both-too h = full-both lim u ns (full-too lim t u same (full-tables lim t ms h)) (marks-too lim ms ns marks (full-marks lim t ms h))
+
+  all-too : (n : Counts) → agreeMarked lim n t ms ≡ true → agreeMarked lim n u ns ≡ true
+  unfolding stateIn
+  all-too n h =
+      let ok = agree-tables lim t ms n h in
+      let p = agree-points lim n t ok in
+      agree-all lim u ns n (agree-too lim t u same n ok)
+      (ap (λ (s : State). marksHold ns (s .values)) (sym (state-same lim t u same n p))
+      ∙ holds-by ms ns (lim .terms) (mark-same lim ms ns marks) (stateIn n t .values) (omega (arith, p .fit .terms, listFrom-length 0 (n .terms) (bitAt (t .values))))
+      (agree-hold lim t ms n h))
+      (sym (rest-same lim ms ns marks n) ∙ agree-rest lim t ms n h)
+
+module _ (lim : Limits) (t u : Tables) (ms ns : List ℕ) (same : SameInFull lim t u) (marks : SameMarks lim ms ns) where
+  -- what a call leaves that is refused
+  as-was : {A : Type 0} (a : A) → SameCall lim (unchanged t ms a) (unchanged u ns a)
+  as-was a = record { answer = refl; tables = same; marks = marks }
+
+  pub both-same : fullMarked lim t ms ≡ fullMarked lim u ns
+  both-same = same-tests _ _ (both-too lim t u ms ns same marks) (both-too lim u t ns ms (sym same) (sym marks))
+
+  pub all-same : (n : Counts) → agreeMarked lim n t ms ≡ agreeMarked lim n u ns
+  all-same n = same-tests _ _ (all-too lim t u ms ns same marks n) (all-too lim u t ns ms (sym same) (sym marks) n)
+
   -- a reading
-  pub read-same : (text : List ℕ) → SameCall lim (readingOf lim text t) (readingOf lim text u)
+  pub read-same : (text : List ℕ) → SameCall lim (readingOf lim text t ms) (readingOf lim text u ns)
   unfolding readingOf readLeaves
-  read-same text = by-same (SameCall lim) _ _ (ap not full-same) (as-was _) (λ _. leaves (readText lim text) refl)
+  read-same text = by-same (SameCall lim) _ _ (ap not both-same) (as-was _) (λ _. leaves (readText lim text) refl)
     where
-      leaves : (r : Reading) → readText lim text ≡ r → SameCall lim (readLeaves lim t r) (readLeaves lim u r)
-      leaves (accepted f) e = record { answer = refl; tables = held (asRead f) (reading-valid lim text f e) }
-      leaves (refused e) _ = record { answer = refl; tables = emptied }
+      leaves : (r : Reading) → readText lim text ≡ r → SameCall lim (readLeaves lim t ms r) (readLeaves lim u ns r)
+      leaves (accepted f) e =
+          record { answer = refl; tables = held lim t u same (asRead f) (reading-valid lim text f e); marks = cleared-same lim ms ns marks }
+      leaves (refused e) _ = record { answer = refl; tables = emptied lim t u same; marks = cleared-same lim ms ns marks }
 
   -- a walk
-  pub walk-same : (o : Order) (n : Counts) → SameCall lim (walkOf lim o n t) (walkOf lim o n u)
+  pub walk-same : (o : Order) (n : Counts) → SameCall lim (walkOf lim o n t ms) (walkOf lim o n u ns)
   unfolding walkOf walkLeaves stateIn
   walk-same o n =
-      by-same (SameCall lim) _ _ (ap not full-same) (as-was _)
+      by-same (SameCall lim) _ _ (ap not both-same) (as-was _)
       (λ full. by-same (SameCall lim) (not (inRange o)) _ refl (as-was _)
-      (λ _. by-same (SameCall lim) _ _ (ap not (agree-same n)) (as-was _) (λ ok. leaves (not-false _ full) (not-false _ ok))))
+      (λ _. by-same (SameCall lim) _ _ (ap not (all-same n)) (as-was _) (λ ok. leaves (not-false _ full) (not-false _ ok))))
     where
-      leaves : areFull lim t ≡ true → agree lim n t ≡ true
-          → SameCall lim (walkLeaves lim t (walkOver o (fileIn n t))) (walkLeaves lim u (walkOver o (fileIn n u)))
+      leaves : fullMarked lim t ms ≡ true → agreeMarked lim n t ms ≡ true
+          → SameCall lim (walkLeaves lim t ms (walkOver o ms (fileIn n t))) (walkLeaves lim u ns (walkOver o ns (fileIn n u)))
       leaves full ok =
-          rw (sym (file-same lim t u same n (agree-points lim n t ok)))
-          (record { answer = refl; tables = held _ (end-valid lim o (fileIn n t) (agree-valid lim n t ok full .proper)) })
+          let ten = agree-tables lim t ms n ok in
+          let proper = agree-valid lim n t ten (full-tables lim t ms full) .proper in
+          rw (sym (file-same lim t u same n (agree-points lim n t ten)), sym (walk-by lim o ms ns (fileIn n t) proper (λ k l. mark-same lim ms ns marks k (omega (arith, proper .few-terms)))))
+          (record { answer = refl; tables = held lim t u same _ (end-valid lim o ms (fileIn n t) proper); marks = marks })
 
   -- a flip list
-  pub flips-same : (ts : List ℕ) (n : Counts) → SameCall lim (flipsOf lim ts n t) (flipsOf lim ts n u)
+  pub flips-same : (ts : List ℕ) (n : Counts) → SameCall lim (flipsOf lim ts n t ms) (flipsOf lim ts n u ns)
   unfolding flipsOf flipsLeave countsOf
   flips-same ts n =
-      by-same (SameCall lim) _ _ (ap not full-same) (as-was _)
+      by-same (SameCall lim) _ _ (ap not both-same) (as-was _)
       (λ full. by-same (SameCall lim) (ltb (lim .list) (length ts)) _ refl (as-was _)
-      (λ _. by-same (SameCall lim) _ _ (ap not (agree-same n)) (as-was _)
+      (λ _. by-same (SameCall lim) _ _ (ap not (all-same n)) (as-was _)
       (λ ok. by-same (SameCall lim) (not (all (λ v. ltb v (n .terms)) ts)) _ refl (as-was _)
-      (λ known. leaves (not-false _ full) (not-false _ ok) (not-false _ known)))))
+      (λ known. by-same (SameCall lim) _ _ (ap not (free (not-false _ ok) (not-false _ known))) (as-was _)
+      (λ _. leaves (not-false _ full) (not-false _ ok) (not-false _ known))))))
     where
-      leaves : areFull lim t ≡ true → agree lim n t ≡ true → all (λ v. ltb v (n .terms)) ts ≡ true
-          → SameCall lim (flipsLeave lim t (flipped ts (stateIn n t))) (flipsLeave lim u (flipped ts (stateIn n u)))
+      free : agreeMarked lim n t ms ≡ true → all (λ v. ltb v (n .terms)) ts ≡ true → all (isFree ms) ts ≡ all (isFree ns) ts
+      free ok known = free-same lim ms ns marks (n .terms) ts (agree-points lim n t (agree-tables lim t ms n ok) .fit .terms) known
+
+      leaves : fullMarked lim t ms ≡ true → agreeMarked lim n t ms ≡ true → all (λ v. ltb v (n .terms)) ts ≡ true
+          → SameCall lim (flipsLeave lim t ms (flipped ts (stateIn n t))) (flipsLeave lim u ns (flipped ts (stateIn n u)))
       leaves full ok known =
-          let names = ap (λ (m : Counts). all (λ v. ltb v (m .terms)) ts) (agree-counts lim n t ok full) ∙ known in
-          rw (sym (state-same lim t u same n (agree-points lim n t ok)))
-          (record { answer = refl; tables = held _ (flipped-valid lim ts (stateIn n t) (agree-valid lim n t ok full) names) })
+          let ten = agree-tables lim t ms n ok in
+          let long = full-tables lim t ms full in
+          let names = ap (λ (m : Counts). all (λ v. ltb v (m .terms)) ts) (agree-counts lim n t ten long) ∙ known in
+          rw (sym (state-same lim t u same n (agree-points lim n t ten)))
+          (record { answer = refl; tables = held lim t u same _ (flipped-valid lim ts (stateIn n t) (agree-valid lim n t ten long) names); marks = marks })
+
+  -- a pin and a lift: what is left where the term is known is the same
+  tested-same : (k : ℕ) (n : Counts) {l r : Leaves Flipped} → (fullMarked lim t ms ≡ true → agreeMarked lim n t ms ≡ true → k < n .terms → SameCall lim l r)
+      → SameCall lim (termTested lim k n t ms l) (termTested lim k n u ns r)
+  unfolding termTested
+  tested-same k n same-left =
+      by-same (SameCall lim) _ _ (ap not both-same) (as-was _)
+      (λ full. by-same (SameCall lim) _ _ (ap not (all-same n)) (as-was _)
+      (λ ok. by-same (SameCall lim) (not (ltb k (n .terms))) _ refl (as-was _)
+      (λ known. same-left (not-false _ full) (not-false _ ok) (ltb-true k (n .terms) (not-false _ known)))))
+
+  module _ (k : ℕ) (n : Counts) (full : fullMarked lim t ms ≡ true) (ok : agreeMarked lim n t ms ≡ true) (known : k < n .terms) where
+    ten-agree : agree lim n t ≡ true
+    ten-agree = agree-tables lim t ms n ok
+
+    ten-full : areFull lim t ≡ true
+    ten-full = full-tables lim t ms full
+
+    state-is : stateIn n t ≡ stateIn n u
+    state-is = state-same lim t u same n (agree-points lim n t ten-agree)
+
+    -- one mark changed
+    one-mark : (m : ℕ) → SameMarks lim (set ms k m) (set ns k m)
+    one-mark m =
+        take-set (lim .terms) k m ms ∙ ap (λ (xs : List ℕ). set xs k m) marks ∙ sym (take-set (lim .terms) k m ns)
+
+    names-are : length (stateIn n t .file .names) ≡ n .terms
+    unfolding countsOf
+    names-are = ap (λ (m : Counts). m .terms) (agree-counts lim n t ten-agree ten-full)
+
+    pinned-valid : (v : ℕ) → Valid lim (statePinned k v n t)
+    unfolding flipsFor
+    pinned-valid v =
+        flipped-valid lim (flipsFor k (valueAsked v) (stateIn n t)) (stateIn n t) (agree-valid lim n t ten-agree ten-full)
+        (by-test (λ (ts : List ℕ). all (λ j. ltb j (length (stateIn n t .file .names))) ts ≡ true) (eqb (getD (stateIn n t .values) k 0) (valueAsked v)) (λ _. refl)
+        (λ _. rw (lt-ltb k (length (stateIn n t .file .names)) (omega (arith, names-are, known))) refl))
+
+  pub pin-same : (k v : ℕ) (n : Counts) → SameCall lim (pinOf lim k v n t ms) (pinOf lim k v n u ns)
+  unfolding pinOf flipsLeave
+  pin-same k v n =
+      tested-same k n
+      (λ full ok known.
+      rw (sym (state-is k n full ok known))
+      (record { answer = refl; tables = held lim t u same _ (pinned-valid k n full ok known v); marks = one-mark k n full ok known (1 + valueAsked v) }))
+
+  pub lift-same : (k : ℕ) (n : Counts) → SameCall lim (liftOf lim k n t ms) (liftOf lim k n u ns)
+  unfolding liftOf
+  lift-same k n = tested-same k n (λ full ok known. record { answer = refl; tables = same; marks = one-mark k n full ok known 0 })
 
   -- the program's run, on one buffer
-  pub run-same : (input b : List ℕ) → cut lim (runOf lim input t b) ≡ cut lim (runOf lim input u b)
-  unfolding runOf ran tablesAfter
-  run-same input b = alike-cut lim (runOf lim input t b) (runOf lim input u b) alike
+  pub run-same : (input b : List ℕ) → cut lim (runOf lim input t ms b) ≡ cut lim (runOf lim input u ns b)
+  unfolding runOf ran tablesAfter marksAfter
+  run-same input b = alike-cut lim (runOf lim input t ms b) (runOf lim input u ns b) alike
     where
       tables-same : SameInFull lim (tablesAfter lim t (courseOf lim input)) (tablesAfter lim u (courseOf lim input))
       tables-same =
-          by-course lim input (λ c. SameInFull lim (tablesAfter lim t c) (tablesAfter lim u c)) (λ _. emptied) (λ _ _ _. same) (λ _ _ _ _. emptied)
-          (λ s f _ q. held _ (end-valid lim (s .order) f (reading-proper lim _ f q)))
+          by-course lim input (λ c. SameInFull lim (tablesAfter lim t c) (tablesAfter lim u c)) (λ _. emptied lim t u same) (λ _ _ _. same) (λ _ _ _ _. emptied lim t u same)
+          (λ s f _ q. held lim t u same _ (end-valid lim (s .order) [] f (reading-proper lim _ f q)))
 
-      alike : Alike lim (runOf lim input t b) (runOf lim input u b)
+      marks-same : SameMarks lim (marksAfter lim ms (courseOf lim input)) (marksAfter lim ns (courseOf lim input))
+      marks-same =
+          let none = cleared-same lim ms ns marks in
+          by-course lim input (λ c. SameMarks lim (marksAfter lim ms c) (marksAfter lim ns c)) (λ _. none) (λ _ _ _. marks) (λ _ _ _ _. none) (λ _ _ _ _. none)
+
+      alike : Alike lim (runOf lim input t ms b) (runOf lim input u ns b)
       alike =
-          by-same (Alike lim) _ _ (ap (λ (f : Bool). not f || ltb (length b) (reportSize lim)) full-same) (record { others = refl; tables = same })
-          (λ _. record { others = refl; tables = tables-same })
+          by-same (Alike lim) _ _ (ap (λ (f : Bool). not f || ltb (length b) (reportSize lim)) both-same) (record { others = refl; tables = same; marks = marks })
+          (λ _. record { others = refl; tables = tables-same; marks = marks-same })

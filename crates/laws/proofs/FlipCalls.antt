@@ -24,11 +24,12 @@ use Rattle.written.specs.Reading.{accepted, readText}
 use Rattle.written.specs.Flips.{flipped}
 use Rattle.written.specs.Tables.{Tables, each, sizes, areFull, inUse, tablesOf, placeIn, countsOf, holding}
 use Rattle.written.specs.Agreement.{stateIn, agree}
+use Rattle.written.specs.Marks.{isFree, fullMarked, agreeMarked}
 use Rattle.written.specs.Outcomes.{Leaves, flipsRefused, flipsLeave, flipsOf, flipValues}
 use Rattle.laws.specs.Valid.{Proper, Bits, Valid}
-use Rattle.laws.specs.Calls.{Stands, SameFile}
+use Rattle.laws.specs.Calls.{Marked, Stands, SameFile}
 use Rattle.laws.specs.FlipCalls.{Fails, reasonGiven, Given, Refused}
-use Rattle.laws.specs.FlipCalls.Fails.{short, long, disagree, unknown}
+use Rattle.laws.specs.FlipCalls.Fails.{short, long, disagree, unknown, pinned}
 use Rattle.laws.specs.Demands.{SameButOrder, AfterFlips, Acceptable, SameButList, WorkedOut, Accepted}
 use Rattle.laws.proofs.Basics.{by-cases, by-lt}
 use Rattle.laws.proofs.Lists.{getD-listOf}
@@ -36,6 +37,7 @@ use Rattle.laws.proofs.Times.{has-is, reordered-length, reordered-all}
 use Rattle.laws.proofs.Flips.{flipped-file}
 use Rattle.laws.proofs.Kept.{flipped-valid}
 use Rattle.laws.proofs.AnyOrder.{demand-three, afresh-listed}
+use Rattle.laws.proofs.Marks.{flips-hold, rest-by, full-tables, full-marks, agree-tables, agree-hold, agree-rest}
 use Rattle.laws.proofs.Each.Table.{Uncovered, Places}
 use Rattle.laws.proofs.Holding.{holding-used, holding-sizes, holding-past}
 use Rattle.laws.proofs.Agreeing.{agree-valid, agree-counts}
@@ -45,7 +47,7 @@ use Rattle.laws.proofs.Readings.{reading-proper}
 -- ---- lent tables into which a state is written, and another that differs from it in the order of its list alone
 
 -- lists as long that are the same from k on
-drop-by : (k : ℕ) (xs ys : List ℕ) → length xs ≡ length ys → ((j : ℕ) → k ≤ j → getD xs j 0 ≡ getD ys j 0) → drop k xs ≡ drop k ys
+pub drop-by : (k : ℕ) (xs ys : List ℕ) → length xs ≡ length ys → ((j : ℕ) → k ≤ j → getD xs j 0 ≡ getD ys j 0) → drop k xs ≡ drop k ys
 drop-by k xs ys e h =
     ext-getD 0 (drop k xs) (drop k ys) (length-drop k xs ∙ ap (λ (m : ℕ). m - k) e ∙ sym (length-drop k ys))
     (λ j l. getD-drop k xs j 0 ∙ h (k + j) (omega arith) ∙ sym (getD-drop k ys j 0))
@@ -56,7 +58,7 @@ module _ (lim : Limits) (s : State) (t : Tables) (v : Valid lim s) where
   list-back = ap (λ (u : Tables). u .uncovered) (holding-used lim s t v)
 
   -- the counts and the list are those worked out afresh
-  worked-out : (n : Counts) → SameFile n (countsOf s) → WorkedOut n (countsOf s) s (holding lim s t)
+  pub worked-out : (n : Counts) → SameFile n (countsOf s) → WorkedOut n (countsOf s) s (holding lim s t)
   unfolding each sizes countsOf inUse
   worked-out n e =
       record {
@@ -131,46 +133,54 @@ abbrev refusalIn : Flipped → Refusal
 refusalIn (F.Applied m) = record { reason = TableTooShort; counts = m }
 refusalIn (F.Refused e) = e
 
-module _ (lim : Limits) (ts : List ℕ) (n : Counts) (t : Tables) where
+module _ (lim : Limits) (ts : List ℕ) (n : Counts) (t : Tables) (ms : List ℕ) where
   -- all tests are passed, or one fails
-  pub tests : {A : Type 0} → (Acceptable lim ts n t → A) → ((r : Reason) → Fails lim ts n t r → A) → A
+  pub tests : {A : Type 0} → (Acceptable lim ts n t ms → A) → ((r : Reason) → Fails lim ts n t ms r → A) → A
   tests pass fail =
-      by-cases (areFull lim t)
+      by-cases (fullMarked lim t ms)
       (λ a. by-lt (lim .list) (length ts) (λ b. fail _ (long a b))
-      (λ b. by-cases (agree lim n t)
-      (λ d. by-cases (all (λ v. ltb v (n .terms)) ts) (λ e. pass (record { full = a; short = b; agrees = d; known = e })) (λ e. fail _ (unknown a b d e)))
+      (λ b. by-cases (agreeMarked lim n t ms)
+      (λ d. by-cases (all (λ v. ltb v (n .terms)) ts) (λ e. by-cases (all (isFree ms) ts) (λ g. pass (record { full = a; short = b; agrees = d; known = e; free = g })) (λ g. fail _ (pinned a b d e g)))
+      (λ e. fail _ (unknown a b d e)))
       (λ d. fail _ (disagree a b d))))
       (λ a. fail _ (short a))
 
-  pub failed : (r : Reason) → Fails lim ts n t r → flipsOf lim ts n t ≡ flipsRefused n t r
+  pub failed : (r : Reason) → Fails lim ts n t ms r → flipsOf lim ts n t ms ≡ flipsRefused n t ms r
   unfolding flipsOf
   failed _ (short a) = rw a refl
   failed _ (long a b) = rw (a, lt-ltb (lim .list) (length ts) b) refl
   failed _ (disagree a b d) = rw (a, le-ltb (lim .list) (length ts) b, d) refl
   failed _ (unknown a b d e) = rw (a, le-ltb (lim .list) (length ts) b, d, e) refl
+  failed _ (pinned a b d e g) = rw (a, le-ltb (lim .list) (length ts) b, d, e, g) refl
 
-  refused-answer : (r : Reason) → Fails lim ts n t r → flipsOf lim ts n t .answer ≡ F.Refused (record { reason = r; counts = n })
+  refused-answer : (r : Reason) → Fails lim ts n t ms r → flipsOf lim ts n t ms .answer ≡ F.Refused (record { reason = r; counts = n })
   refused-answer r f = ap (λ (l : Leaves Flipped). l .answer) (failed r f)
 
-  pub passed : Acceptable lim ts n t → flipsOf lim ts n t ≡ flipsLeave lim t (flipped ts (stateIn n t))
+  pub passed : Acceptable lim ts n t ms → flipsOf lim ts n t ms ≡ flipsLeave lim t ms (flipped ts (stateIn n t))
   unfolding flipsOf
-  passed h = rw (h .full, le-ltb (lim .list) (length ts) (h .short), h .agrees, h .known) refl
+  passed h = rw (h .full, le-ltb (lim .list) (length ts) (h .short), h .agrees, h .known, h .free) refl
 
-  module _ (h : Acceptable lim ts n t) where
-    pub applied : flipsOf lim ts n t .answer ≡ F.Applied (countsOf (flipped ts (stateIn n t)))
+  module _ (h : Acceptable lim ts n t ms) where
+    pub applied : flipsOf lim ts n t ms .answer ≡ F.Applied (countsOf (flipped ts (stateIn n t)))
     unfolding flipsLeave
     applied = ap (λ (l : Leaves Flipped). l .answer) (passed h)
 
-    pub left : flipsOf lim ts n t .tables ≡ holding lim (flipped ts (stateIn n t)) t
+    pub left : flipsOf lim ts n t ms .tables ≡ holding lim (flipped ts (stateIn n t)) t
     unfolding flipsLeave
     left = ap (λ (l : Leaves Flipped). l .tables) (passed h)
 
+    pub tables-full : areFull lim t ≡ true
+    tables-full = full-tables lim t ms (h .full)
+
+    pub tables-agree : agree lim n t ≡ true
+    tables-agree = agree-tables lim t ms n (h .agrees)
+
     -- the state that was flipped, and the state that stands
     pub before-valid : Valid lim (stateIn n t)
-    before-valid = agree-valid lim n t (h .agrees) (h .full)
+    before-valid = agree-valid lim n t tables-agree tables-full
 
     pub before-counts : countsOf (stateIn n t) ≡ n
-    before-counts = agree-counts lim n t (h .agrees) (h .full)
+    before-counts = agree-counts lim n t tables-agree tables-full
 
     pub names-known : all (λ v. ltb v (length (stateIn n t .file .names))) ts ≡ true
     unfolding countsOf
@@ -179,102 +189,135 @@ module _ (lim : Limits) (ts : List ℕ) (n : Counts) (t : Tables) where
     pub after-valid : Valid lim (flipped ts (stateIn n t))
     after-valid = flipped-valid lim ts (stateIn n t) before-valid names-known
 
+    -- pinned terms keep their marked values
+    pub after-marked : Marked lim (flipped ts (stateIn n t)) ms
+    unfolding countsOf
+    after-marked =
+        record {
+          full = full-marks lim t ms (h .full);
+          hold = flips-hold ms ts (stateIn n t) (h .free) (agree-hold lim t ms n (h .agrees));
+          rest = rest-by lim n (countsOf (flipped ts (stateIn n t))) ms
+              (sym (ap (λ (f : File). length (f .names)) (flipped-file ts (stateIn n t)) ∙ ap (λ (m : Counts). m .terms) before-counts))
+              (agree-rest lim t ms n (h .agrees));
+        }
+
+  -- no mark is moved, whatever is answered
+  pub flips-marks : flipsOf lim ts n t ms .marks ≡ ms
+  unfolding flipsLeave
+  flips-marks = tests (λ h. ap (λ (l : Leaves Flipped). l .marks) (passed h)) (λ r f. ap (λ (l : Leaves Flipped). l .marks) (failed r f))
+
   -- accepted exactly if all that is asked of a call holds
-  pub accepted-exactly : ((m : Counts) × (flipsOf lim ts n t .answer ≡ F.Applied m)) ↔ Acceptable lim ts n t
+  pub accepted-exactly : ((m : Counts) × (flipsOf lim ts n t ms .answer ≡ F.Applied m)) ↔ Acceptable lim ts n t ms
   accepted-exactly = (λ a. was-acceptable (a .0) (a .1), λ h. (countsOf (flipped ts (stateIn n t)), applied h))
     where
-      was-acceptable : (m : Counts) → flipsOf lim ts n t .answer ≡ F.Applied m → Acceptable lim ts n t
+      was-acceptable : (m : Counts) → flipsOf lim ts n t ms .answer ≡ F.Applied m → Acceptable lim ts n t ms
       was-acceptable m e = tests (λ h. h) (λ r f. absurd (false≢true (ap isApplied (sym (refused-answer r f) ∙ e))))
 
   -- a refused list leaves all as it was
-  pub flips-refused : (e : Refusal) → flipsOf lim ts n t .answer ≡ F.Refused e → Refused lim ts n t e (flipsOf lim ts n t .tables)
+  pub flips-refused : (e : Refusal) → flipsOf lim ts n t ms .answer ≡ F.Refused e → Refused lim ts n t ms e (flipsOf lim ts n t ms .tables)
   flips-refused e q =
       tests (λ h. absurd (true≢false (ap isApplied (sym (applied h) ∙ q))))
       (λ r f.
       let same = ap refusalIn (sym (refused-answer r f) ∙ q) in
       record {
-        fails = subst (λ (x : Refusal). Fails lim ts n t (x .reason)) same f;
+        fails = subst (λ (x : Refusal). Fails lim ts n t ms (x .reason)) same f;
         left = ap (λ (l : Leaves Flipped). l .tables) (failed r f);
         counts = ap (λ (x : Refusal). x .counts) (sym same);
         values = ap (λ (m : Counts). flipValues (F.Refused (record { reason = e .reason; counts = m }))) (ap (λ (x : Refusal). x .counts) (sym same));
       })
 
   -- every list is applied or refused
-  pub flips-either : ((m : Counts) × (flipsOf lim ts n t .answer ≡ F.Applied m)) ⊎ ((e : Refusal) × (flipsOf lim ts n t .answer ≡ F.Refused e))
+  pub flips-either : ((m : Counts) × (flipsOf lim ts n t ms .answer ≡ F.Applied m)) ⊎ ((e : Refusal) × (flipsOf lim ts n t ms .answer ≡ F.Refused e))
   flips-either = tests (λ h. inl (countsOf (flipped ts (stateIn n t)), applied h)) (λ r f. inr (record { reason = r; counts = n }, refused-answer r f))
 
   -- which reason is given
 
-  failed-reason : (r : Reason) → Fails lim ts n t r → reasonGiven lim ts n t ≡ numberOf r
+  failed-reason : (r : Reason) → Fails lim ts n t ms r → reasonGiven lim ts n t ms ≡ numberOf r
   failed-reason r f = ap (λ (a : Flipped). flipValues a .reason) (refused-answer r f)
 
-  passed-reason : Acceptable lim ts n t → reasonGiven lim ts n t ≡ 0
+  passed-reason : Acceptable lim ts n t ms → reasonGiven lim ts n t ms ≡ 0
   passed-reason h = ap (λ (a : Flipped). flipValues a .reason) (applied h)
 
-  by-reason : {A : Type 0} → (reasonGiven lim ts n t ≡ 0 → Acceptable lim ts n t → A) → (reasonGiven lim ts n t ≡ 1 → areFull lim t ≡ false → A)
-      → (reasonGiven lim ts n t ≡ 14 → areFull lim t ≡ true → lim .list < length ts → A)
-      → (reasonGiven lim ts n t ≡ 12 → areFull lim t ≡ true → length ts ≤ lim .list → agree lim n t ≡ false → A)
-      → (reasonGiven lim ts n t ≡ 13 → areFull lim t ≡ true → length ts ≤ lim .list → agree lim n t ≡ true → all (λ v. ltb v (n .terms)) ts ≡ false → A) → A
-  by-reason {A} pass one fourteen twelve thirteen = tests (λ h. pass (passed-reason h) h) by-failed
+  by-reason : {A : Type 0} → (reasonGiven lim ts n t ms ≡ 0 → Acceptable lim ts n t ms → A) → (reasonGiven lim ts n t ms ≡ 1 → fullMarked lim t ms ≡ false → A)
+      → (reasonGiven lim ts n t ms ≡ 14 → fullMarked lim t ms ≡ true → lim .list < length ts → A)
+      → (reasonGiven lim ts n t ms ≡ 12 → fullMarked lim t ms ≡ true → length ts ≤ lim .list → agreeMarked lim n t ms ≡ false → A)
+      → (reasonGiven lim ts n t ms ≡ 13 → fullMarked lim t ms ≡ true → length ts ≤ lim .list → agreeMarked lim n t ms ≡ true → all (λ v. ltb v (n .terms)) ts ≡ false → A)
+      → (reasonGiven lim ts n t ms ≡ 20 → fullMarked lim t ms ≡ true → length ts ≤ lim .list → agreeMarked lim n t ms ≡ true → all (λ v. ltb v (n .terms)) ts ≡ true
+      → all (isFree ms) ts ≡ false → A) → A
+  by-reason {A} pass one fourteen twelve thirteen twenty = tests (λ h. pass (passed-reason h) h) by-failed
     where
-      by-failed : (r : Reason) → Fails lim ts n t r → A
+      by-failed : (r : Reason) → Fails lim ts n t ms r → A
       by-failed _ (short a) = one (failed-reason _ (short a)) a
       by-failed _ (long a b) = fourteen (failed-reason _ (long a b)) a b
       by-failed _ (disagree a b d) = twelve (failed-reason _ (disagree a b d)) a b d
       by-failed _ (unknown a b d e) = thirteen (failed-reason _ (unknown a b d e)) a b d e
+      by-failed _ (pinned a b d e g) = twenty (failed-reason _ (pinned a b d e g)) a b d e g
 
-  pub flips-given : Given lim ts n t
+  pub flips-given : Given lim ts n t ms
   flips-given =
       record {
         reason-1 = (
-          λ q. by-reason (λ z _. absurd (omega arith)) (λ z a. a) (λ z _ _. absurd (omega arith)) (λ z _ _ _. absurd (omega arith)) (λ z _ _ _ _. absurd (omega arith)),
+          λ q. by-reason (λ z _. absurd (omega arith)) (λ z a. a) (λ z _ _. absurd (omega arith)) (λ z _ _ _. absurd (omega arith))
+              (λ z _ _ _ _. absurd (omega arith)) (λ z _ _ _ _ _. absurd (omega arith)),
           λ a. failed-reason _ (short a),
         );
         reason-14 = (
-          λ q. by-reason (λ z _. absurd (omega arith)) (λ z _. absurd (omega arith)) (λ z a b. (a, b)) (λ z _ _ _. absurd (omega arith)) (λ z _ _ _ _. absurd (omega arith)),
+          λ q. by-reason (λ z _. absurd (omega arith)) (λ z _. absurd (omega arith)) (λ z a b. (a, b)) (λ z _ _ _. absurd (omega arith))
+              (λ z _ _ _ _. absurd (omega arith)) (λ z _ _ _ _ _. absurd (omega arith)),
           λ a. failed-reason _ (long (a .0) (a .1)),
         );
         reason-12 = (
-          λ q. by-reason (λ z _. absurd (omega arith)) (λ z _. absurd (omega arith)) (λ z _ _. absurd (omega arith)) (λ z a b d. (a, b, d)) (λ z _ _ _ _. absurd (omega arith)),
+          λ q. by-reason (λ z _. absurd (omega arith)) (λ z _. absurd (omega arith)) (λ z _ _. absurd (omega arith)) (λ z a b d. (a, b, d))
+              (λ z _ _ _ _. absurd (omega arith)) (λ z _ _ _ _ _. absurd (omega arith)),
           λ a. failed-reason _ (disagree (a .0) (a .1) (a .2)),
         );
         reason-13 = (
-          λ q. by-reason (λ z _. absurd (omega arith)) (λ z _. absurd (omega arith)) (λ z _ _. absurd (omega arith)) (λ z _ _ _. absurd (omega arith)) (λ z a b d e. (a, b, d, e)),
+          λ q. by-reason (λ z _. absurd (omega arith)) (λ z _. absurd (omega arith)) (λ z _ _. absurd (omega arith)) (λ z _ _ _. absurd (omega arith))
+              (λ z a b d e. (a, b, d, e)) (λ z _ _ _ _ _. absurd (omega arith)),
           λ a. failed-reason _ (unknown (a .0) (a .1) (a .2) (a .3)),
         );
+        reason-20 = (
+          λ q. by-reason (λ z _. absurd (omega arith)) (λ z _. absurd (omega arith)) (λ z _ _. absurd (omega arith)) (λ z _ _ _. absurd (omega arith))
+              (λ z _ _ _ _. absurd (omega arith)) (λ z a b d e g. (a, b, d, e, g)),
+          λ a. failed-reason _ (pinned (a .0) (a .1) (a .2) (a .3) (a .4)),
+        );
         no-reason = (
-          λ q. by-reason (λ z h. h) (λ z _. absurd (omega arith)) (λ z _ _. absurd (omega arith)) (λ z _ _ _. absurd (omega arith)) (λ z _ _ _ _. absurd (omega arith)),
+          λ q. by-reason (λ z h. h) (λ z _. absurd (omega arith)) (λ z _ _. absurd (omega arith)) (λ z _ _ _. absurd (omega arith))
+              (λ z _ _ _ _. absurd (omega arith)) (λ z _ _ _ _ _. absurd (omega arith)),
           passed-reason,
         );
-        no-other = by-reason (λ z _. inl (inl z)) (λ z _. inl (inr z)) (λ z _ _. inr (inl z)) (λ z _ _ _. inr (inr (inl z))) (λ z _ _ _ _. inr (inr (inr z)));
+        no-other =
+            by-reason (λ z _. inl (inl z)) (λ z _. inl (inr z)) (λ z _ _. inr (inl z)) (λ z _ _ _. inr (inr (inl z))) (λ z _ _ _ _. inr (inr (inr (inl z))))
+            (λ z _ _ _ _ _. inr (inr (inr (inr z))));
       }
 
 -- ---- what an accepted call leaves
 
 -- a list that names each term equally often is as acceptable
-reordered : (lim : Limits) (ts us : List ℕ) (n : Counts) (t : Tables) → ((v : ℕ) → times v ts ≡ times v us) → Acceptable lim ts n t → Acceptable lim us n t
-reordered lim ts us n t same h =
+reordered : (lim : Limits) (ts us : List ℕ) (n : Counts) (t : Tables) (ms : List ℕ) → ((v : ℕ) → times v ts ≡ times v us) → Acceptable lim ts n t ms → Acceptable lim us n t ms
+reordered lim ts us n t ms same h =
     record {
       full = h .full;
       short = omega (arith, reordered-length ts us same, h .short);
       agrees = h .agrees;
       known = reordered-all ts us same (λ v. ltb v (n .terms)) (h .known);
+      free = reordered-all ts us same (isFree ms) (h .free);
     }
 
-acceptable-leaves : (lim : Limits) (ts : List ℕ) (n : Counts) (t : Tables) → Acceptable lim ts n t → Accepted lim ts n (countsOf (flipped ts (stateIn n t))) t
+acceptable-leaves : (lim : Limits) (ts : List ℕ) (n : Counts) (t : Tables) (ms : List ℕ) → Acceptable lim ts n t ms → Accepted lim ts n (countsOf (flipped ts (stateIn n t))) t ms
 unfolding countsOf
-acceptable-leaves lim ts n t h =
+acceptable-leaves lim ts n t ms h =
     record {
-      stands = subst (λ u. Stands lim after t (countsOf after) u) (sym out) (stands-in lim after t valid (h .full));
+      stands = subst (λ u. Stands lim after t (countsOf after) u ms) (sym out) (stands-in lim after t ms valid (after-marked lim ts n t ms h) (tables-full lim ts n t ms h));
       worked-out = subst (λ u. WorkedOut n (countsOf after) after u) (sym out) (worked-out lim after t valid n kept);
       after = demanded;
       counts = kept;
       any-order = λ us same.
-          let k = reordered lim ts us n t same h in
+          let k = reordered lim ts us n t ms same h in
           let o = demanded .any-order us same in
-          let w = after-valid lim us n t k in (
-            applied lim us n t k ∙ ap F.Applied (sym (same-counts lim after (flipped us (stateIn n t)) t valid w o)),
-            subst₂ (λ a b. SameButList (length (after .uncovered)) a b) (sym out) (sym (left lim us n t k))
+          let w = after-valid lim us n t ms k in (
+            applied lim us n t ms k ∙ ap F.Applied (sym (same-counts lim after (flipped us (stateIn n t)) t valid w o)),
+            subst₂ (λ a b. SameButList (length (after .uncovered)) a b) (sym out) (sym (left lim us n t ms k))
                 (same-tables lim after (flipped us (stateIn n t)) t valid w o),
           );
     }
@@ -282,38 +325,39 @@ acceptable-leaves lim ts n t h =
     after : State
     after = flipped ts (stateIn n t)
 
-    out : flipsOf lim ts n t .tables ≡ holding lim after t
-    out = left lim ts n t h
+    out : flipsOf lim ts n t ms .tables ≡ holding lim after t
+    out = left lim ts n t ms h
 
     valid : Valid lim after
-    valid = after-valid lim ts n t h
+    valid = after-valid lim ts n t ms h
 
     kept : SameFile n (countsOf after)
-    kept = same-file lim n t after (h .agrees) (h .full) (flipped-file ts (stateIn n t))
+    kept = same-file lim n t after (tables-agree lim ts n t ms h) (tables-full lim ts n t ms h) (flipped-file ts (stateIn n t))
 
     demanded : AfterFlips ts (stateIn n t)
-    demanded = demand-three lim ts (stateIn n t) (before-valid lim ts n t h) (names-known lim ts n t h)
+    demanded = demand-three lim ts (stateIn n t) (before-valid lim ts n t ms h) (names-known lim ts n t ms h)
 
 -- demand 3
-pub flips-accepted : (lim : Limits) (ts : List ℕ) (n m : Counts) (t : Tables) → flipsOf lim ts n t .answer ≡ F.Applied m → Accepted lim ts n m t
-flips-accepted lim ts n m t e =
-    let h = accepted-exactly lim ts n t .0 (m, e) in
-    subst (λ (k : Counts). Accepted lim ts n k t) (ap countsIn (sym (applied lim ts n t h) ∙ e)) (acceptable-leaves lim ts n t h)
+pub flips-accepted : (lim : Limits) (ts : List ℕ) (n m : Counts) (t : Tables) (ms : List ℕ) → flipsOf lim ts n t ms .answer ≡ F.Applied m → Accepted lim ts n m t ms
+flips-accepted lim ts n m t ms e =
+    let h = accepted-exactly lim ts n t ms .0 (m, e) in
+    subst (λ (k : Counts). Accepted lim ts n k t ms) (ap countsIn (sym (applied lim ts n t ms h) ∙ e)) (acceptable-leaves lim ts n t ms h)
 
--- "Take one [..] clause file, any starting values and any list of up to 65,536 flips of known terms": such a call is accepted, whatever kind of text it was read from
-pub file-acceptable : (lim : Limits) (f : File) (vs ts : List ℕ) (t : Tables) → Proper lim f
-    → length vs ≡ length (f .names) → Bits vs → length ts ≤ lim .list → all (λ v. ltb v (length (f .names))) ts ≡ true → areFull lim t ≡ true
-    → Acceptable lim ts (countsOf (afresh f vs)) (holding lim (afresh f vs) t)
+-- "Take one [..] clause file, any starting values and any list of up to 65,536 flips of known terms", which document 02 makes "known and free terms", the
+-- values "any that give each pinned term its marked value": such a call is accepted, whatever kind of text it was read from
+pub file-acceptable : (lim : Limits) (f : File) (vs ts : List ℕ) (t : Tables) (ms : List ℕ) → Proper lim f
+    → length vs ≡ length (f .names) → Bits vs → Marked lim (afresh f vs) ms → length ts ≤ lim .list → all (λ v. ltb v (length (f .names))) ts ≡ true
+    → all (isFree ms) ts ≡ true → areFull lim t ≡ true → Acceptable lim ts (countsOf (afresh f vs)) (holding lim (afresh f vs) t) ms
 unfolding countsOf afresh
-file-acceptable lim f vs ts t proper one-each bits few known full =
+file-acceptable lim f vs ts t ms proper one-each bits marked few known free full =
     let s = afresh f vs in
-    stands-acceptable lim s t (countsOf s) (holding lim s t) (stands-in lim s t valid full) ts few known
+    stands-acceptable lim s t (countsOf s) (holding lim s t) ms (stands-in lim s t ms valid marked full) ts few known free
   where
     valid : Valid lim (afresh f vs)
     valid = record { proper = proper; one-each = one-each; bits = bits; listed = afresh-listed f vs }
 
 -- "one accepted clause file"
-pub text-acceptable : (lim : Limits) (text : List ℕ) (f : File) (vs ts : List ℕ) (t : Tables) → readText lim text ≡ accepted f
-    → length vs ≡ length (f .names) → Bits vs → length ts ≤ lim .list → all (λ v. ltb v (length (f .names))) ts ≡ true → areFull lim t ≡ true
-    → Acceptable lim ts (countsOf (afresh f vs)) (holding lim (afresh f vs) t)
-text-acceptable lim text f vs ts t e = file-acceptable lim f vs ts t (reading-proper lim text f e)
+pub text-acceptable : (lim : Limits) (text : List ℕ) (f : File) (vs ts : List ℕ) (t : Tables) (ms : List ℕ) → readText lim text ≡ accepted f
+    → length vs ≡ length (f .names) → Bits vs → Marked lim (afresh f vs) ms → length ts ≤ lim .list → all (λ v. ltb v (length (f .names))) ts ≡ true
+    → all (isFree ms) ts ≡ true → areFull lim t ≡ true → Acceptable lim ts (countsOf (afresh f vs)) (holding lim (afresh f vs) t) ms
+text-acceptable lim text f vs ts t ms e = file-acceptable lim f vs ts t ms (reading-proper lim text f e)

@@ -41,6 +41,13 @@ those-has p c ls h =
     by-cases (p c) (λ q. let f : times c (those p ls) ≡ times c ls = rw q at e in times-has c ls (omega arith))
     (λ q. let f : times c (those p ls) ≡ 0 = rw q at e in absurd (omega arith))
 
+-- and passes it
+pub those-pass : (p : ℕ → Bool) (c : ℕ) (ls : List ℕ) → has c (those p ls) ≡ true → p c ≡ true
+those-pass p c ls h =
+    let e = times-those p c ls in
+    let t = has-times c (those p ls) h in
+    by-cases (p c) (λ q. q) (λ q. let f : times c (those p ls) ≡ 0 = rw q at e in absurd (omega arith))
+
 -- some pass a test if the first does, or else some of the rest
 some-those : (p : ℕ → Bool) (l : ℕ) (ls : List ℕ) → (p l ≡ false → 0 < length (those p ls)) → 0 < length (those p (l ∷ ls))
 some-those p l ls h = by-cases (p l) (λ q. rw q (omega arith)) (λ q. rw q (h q))

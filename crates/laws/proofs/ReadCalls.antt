@@ -2,7 +2,7 @@
 -- What stood before makes no difference. Assumes nothing.
 use Prim.Native.Nat.{ℕ, _+_, _-_, _≤_, _<_}
 use mathlib.Core.Logic.{_↔_, _⊎_, inl, inr}
-use mathlib.Core.Path.{_≡_, refl, ap, sym, subst, subst₂, _∙_}
+use mathlib.Core.Path.{_≡_, refl, ap, ap₂, sym, subst, subst₂, _∙_}
 use mathlib.Core.Bool.{Bool, true, false, false≢true, true≢false}
 use mathlib.Core.List.{List, [], _∷_}
 use native.Mathlib.Omega.{arith}
@@ -22,7 +22,8 @@ use Rattle.written.specs.Clauses.{File, State, afresh, asRead}
 use Rattle.written.specs.Reading.{Reading, accepted, refused, readText}
 use Rattle.written.specs.Tables.{Tables, each, sizes, fullSizes, areFull, countsOf, holding, cleared, noCounts}
 use Rattle.written.specs.Agreement.{stateIn, agree}
-use Rattle.written.specs.Outcomes.{Leaves, unchanged, readLeaves, readingOf, readValues}
+use Rattle.written.specs.Marks.{fullMarked, unmarked, agreeMarked}
+use Rattle.written.specs.Outcomes.{Leaves, leaves, ten, tenOf, unchanged, readLeaves, readingOf, readValues}
 use Rattle.laws.specs.Valid.{Proper, Valid}
 use Rattle.laws.specs.Reasons.{namesLine, ofText}
 use Rattle.laws.specs.ReadCalls.{Filled, LeftAlone, Emptied, Stopped, reasonGiven, countsGiven, Given}
@@ -32,6 +33,8 @@ use Rattle.laws.proofs.Each.Table.{Values, Starts}
 use Rattle.laws.proofs.Holding.{tables-at, cleared-at, holding-full, cleared-full, holding-take, cleared-take, holding-beyond, cleared-beyond, holding-by, cleared-by}
 use Rattle.laws.proofs.Back.{holding-back}
 use Rattle.laws.proofs.Points.{Points, agree-points}
+use Rattle.laws.proofs.Marks.{unmarked-drop, unmarked-full, unmarked-by, unmarked-marked, full-tables, full-marks, full-both, tables-disagree}
+use Rattle.laws.proofs.Leaves.{both-left, ten-marked}
 use Rattle.laws.proofs.Stands.{stands-in}
 use Rattle.laws.proofs.Reasons.{line-of-text, line-not-last, late-number}
 use Rattle.laws.proofs.Readings.{reading-proper, reading-valid, as-read-valid, file-words}
@@ -177,56 +180,80 @@ abbrev faultIn : Read → Fault
 faultIn (R.Accepted n) = fault NoClause
 faultIn (R.Refused e) = e
 
-leaves-reason : (lim : Limits) (t : Tables) (r : Reading) → readValues (readLeaves lim t r .answer) .reason ≡ reasonIn r
+leaves-reason : (lim : Limits) (t : Tables) (ms : List ℕ) (r : Reading) → readValues (readLeaves lim t ms r .answer) .reason ≡ reasonIn r
 unfolding readLeaves
-leaves-reason lim t (accepted f) = refl
-leaves-reason lim t (refused e) = refl
+leaves-reason lim t ms (accepted f) = refl
+leaves-reason lim t ms (refused e) = refl
 
-module _ (lim : Limits) (text : List ℕ) (t : Tables) where
+-- the marks stand beside the answer and the ten tables
+pub same-ten : (lim : Limits) (t : Tables) (ms : List ℕ) (r : Reading) → tenOf (readLeaves lim t [] r) ≡ tenOf (readLeaves lim t ms r)
+unfolding readLeaves
+same-ten lim t ms (accepted f) = refl
+same-ten lim t ms (refused e) = refl
+
+module _ (lim : Limits) (text : List ℕ) (t : Tables) (ms : List ℕ) where
   -- for short tables the answer is reason 1, whatever the text
-  pub short-reading : areFull lim t ≡ false → readingOf lim text t ≡ unchanged t (R.Refused (fault TableTooShort))
+  pub short-reading : fullMarked lim t ms ≡ false → readingOf lim text t ms ≡ unchanged t ms (R.Refused (fault TableTooShort))
   unfolding readingOf
   short-reading h = rw h refl
 
-  pub full-reading : areFull lim t ≡ true → readingOf lim text t ≡ readLeaves lim t (readText lim text)
+  pub full-reading : fullMarked lim t ms ≡ true → readingOf lim text t ms ≡ readLeaves lim t ms (readText lim text)
   unfolding readingOf
   full-reading h = rw h refl
 
   -- one of three
-  by-outcome : {A : Type 0} → (areFull lim t ≡ false → A) → (areFull lim t ≡ true → (f : File) → readText lim text ≡ accepted f → A)
-      → (areFull lim t ≡ true → (e : Fault) → readText lim text ≡ refused e → A) → A
-  by-outcome short told faulty = by-cases (areFull lim t) (λ full. by-reading (readText lim text) (readText lim text) refl (told full) (faulty full)) short
+  by-outcome : {A : Type 0} → (fullMarked lim t ms ≡ false → A) → (fullMarked lim t ms ≡ true → (f : File) → readText lim text ≡ accepted f → A)
+      → (fullMarked lim t ms ≡ true → (e : Fault) → readText lim text ≡ refused e → A) → A
+  by-outcome short told faulty = by-cases (fullMarked lim t ms) (λ full. by-reading (readText lim text) (readText lim text) refl (told full) (faulty full)) short
 
-  short-answer : areFull lim t ≡ false → readingOf lim text t .answer ≡ R.Refused (fault TableTooShort)
+  short-answer : fullMarked lim t ms ≡ false → readingOf lim text t ms .answer ≡ R.Refused (fault TableTooShort)
   short-answer h = ap (λ (l : Leaves Read). l .answer) (short-reading h)
 
-  pub accepted-answer : areFull lim t ≡ true → (f : File) → readText lim text ≡ accepted f → readingOf lim text t .answer ≡ R.Accepted (countsOf (asRead f))
+  pub accepted-answer : fullMarked lim t ms ≡ true → (f : File) → readText lim text ≡ accepted f → readingOf lim text t ms .answer ≡ R.Accepted (countsOf (asRead f))
   unfolding readLeaves
-  accepted-answer h f e = ap (λ (l : Leaves Read). l .answer) (full-reading h ∙ ap (readLeaves lim t) e)
+  accepted-answer h f e = ap (λ (l : Leaves Read). l .answer) (full-reading h ∙ ap (readLeaves lim t ms) e)
 
-  pub accepted-tables : areFull lim t ≡ true → (f : File) → readText lim text ≡ accepted f → readingOf lim text t .tables ≡ holding lim (asRead f) t
+  pub accepted-tables : fullMarked lim t ms ≡ true → (f : File) → readText lim text ≡ accepted f → readingOf lim text t ms .tables ≡ holding lim (asRead f) t
   unfolding readLeaves
-  accepted-tables h f e = ap (λ (l : Leaves Read). l .tables) (full-reading h ∙ ap (readLeaves lim t) e)
+  accepted-tables h f e = ap (λ (l : Leaves Read). l .tables) (full-reading h ∙ ap (readLeaves lim t ms) e)
 
-  refused-answer : areFull lim t ≡ true → (e : Fault) → readText lim text ≡ refused e → readingOf lim text t .answer ≡ R.Refused e
+  refused-answer : fullMarked lim t ms ≡ true → (e : Fault) → readText lim text ≡ refused e → readingOf lim text t ms .answer ≡ R.Refused e
   unfolding readLeaves
-  refused-answer h e r = ap (λ (l : Leaves Read). l .answer) (full-reading h ∙ ap (readLeaves lim t) r)
+  refused-answer h e r = ap (λ (l : Leaves Read). l .answer) (full-reading h ∙ ap (readLeaves lim t ms) r)
 
-  refused-tables : areFull lim t ≡ true → (e : Fault) → readText lim text ≡ refused e → readingOf lim text t .tables ≡ cleared lim t
+  -- the marks are cleared where the tables are full
+  pub marks-left : fullMarked lim t ms ≡ true → readingOf lim text t ms .marks ≡ unmarked lim ms
   unfolding readLeaves
-  refused-tables h e r = ap (λ (l : Leaves Read). l .tables) (full-reading h ∙ ap (readLeaves lim t) r)
+  marks-left h =
+      ap (λ (l : Leaves Read). l .marks) (full-reading h)
+      ∙ by-reading (readText lim text) (readText lim text) refl (λ f e. ap (λ (r : Reading). readLeaves lim t ms r .marks) e)
+      (λ e r. ap (λ (x : Reading). readLeaves lim t ms x .marks) r)
+
+  -- so what was read into the ten tables, with the marks cleared, is what the call leaves
+  pub ten-read : fullMarked lim t ms ≡ true → {a : Read} {u : Tables} → ten a u ≡ tenOf (readLeaves lim t [] (readText lim text))
+      → leaves a u (unmarked lim ms) ≡ readingOf lim text t ms
+  ten-read h e =
+      ten-marked (e ∙ same-ten lim t ms (readText lim text) ∙ sym (ap tenOf (full-reading h))) (sym (marks-left h))
+
+  refused-tables : fullMarked lim t ms ≡ true → (e : Fault) → readText lim text ≡ refused e → readingOf lim text t ms .tables ≡ cleared lim t
+  unfolding readLeaves
+  refused-tables h e r = ap (λ (l : Leaves Read). l .tables) (full-reading h ∙ ap (readLeaves lim t ms) r)
 
 -- ---- what an accepted call leaves
 
 -- whatever kind of text the file was read from
-pub file-filled : (lim : Limits) (f : File) (t : Tables) → Proper lim f → areFull lim t ≡ true → Filled lim f t (countsOf (asRead f)) (holding lim (asRead f) t)
+pub file-filled : (lim : Limits) (f : File) (t : Tables) (ms : List ℕ) → Proper lim f → fullMarked lim t ms ≡ true
+    → Filled lim f t ms (countsOf (asRead f)) (holding lim (asRead f) t) (unmarked lim ms)
 unfolding countsOf asRead afresh stateIn
-file-filled lim f t proper full =
+file-filled lim f t ms proper full =
     record {
-      stands = stands-in lim (asRead f) t v full;
+      stands = stands-in lim (asRead f) t (unmarked lim ms) v
+          (unmarked-marked lim ms (asRead f) (omega (arith, v .one-each, proper .few-terms)) (full-marks lim t ms full))
+          (full-tables lim t ms full);
       values = ap (λ (s : State). s .values) back;
       words = zero-words;
       worked-out = back ∙ ap (λ (g : File). afresh g (zeros (length (f .names)))) (sym (ap (λ (s : State). s .file) back));
+      marks = refl;
     }
   where
     v : Valid lim (asRead f)
@@ -242,8 +269,9 @@ file-filled lim f t proper full =
 
 -- ---- what a refused call leaves
 
-emptied : (lim : Limits) (text : List ℕ) (t : Tables) (e : Fault) → areFull lim t ≡ true → readText lim text ≡ refused e → Emptied lim text t e (cleared lim t)
-emptied lim text t e full r =
+emptied : (lim : Limits) (text : List ℕ) (t : Tables) (ms : List ℕ) (e : Fault) → fullMarked lim t ms ≡ true → readText lim text ≡ refused e
+    → Emptied lim text t ms e (cleared lim t) (unmarked lim ms)
+emptied lim text t ms e full r =
     record {
       lent-full = full;
       read = r;
@@ -252,11 +280,12 @@ emptied lim text t e full r =
       last-line = placed .most;
       no-line = placed .none;
       left = refl;
+      marks = refl;
       in-full-sizes = cleared-take lim t;
       beyond = cleared-beyond lim t;
-      full = cleared-full lim t full;
+      full = full-both lim (cleared lim t) (unmarked lim ms) (cleared-full lim t (full-tables lim t ms full)) (unmarked-full lim ms (full-marks lim t ms full));
       values = refl;
-      disagrees = cleared-disagrees lim t;
+      disagrees = λ m. tables-disagree lim (cleared lim t) (unmarked lim ms) m (cleared-disagrees lim t m);
     }
   where
     placed : Placed text e
@@ -264,91 +293,94 @@ emptied lim text t e full r =
 
 -- ---- the call
 
-module _ (lim : Limits) (text : List ℕ) (t : Tables) where
+module _ (lim : Limits) (text : List ℕ) (t : Tables) (ms : List ℕ) where
   -- accepted, it leaves the tables of the file that the text says
-  pub reading-accepted : (n : Counts) → readingOf lim text t .answer ≡ R.Accepted n
-      → (f : File) × (areFull lim t ≡ true) × (readText lim text ≡ accepted f) × Filled lim f t n (readingOf lim text t .tables)
+  pub reading-accepted : (n : Counts) → readingOf lim text t ms .answer ≡ R.Accepted n
+      → (f : File) × (fullMarked lim t ms ≡ true) × (readText lim text ≡ accepted f) × Filled lim f t ms n (readingOf lim text t ms .tables) (readingOf lim text t ms .marks)
   reading-accepted n q =
-      by-outcome lim text t (λ s. absurd (false≢true (ap isAccepted (sym (short-answer lim text t s) ∙ q))))
+      by-outcome lim text t ms (λ s. absurd (false≢true (ap isAccepted (sym (short-answer lim text t ms s) ∙ q))))
       (λ full f e. (
         f,
         full,
         e,
-        subst₂ (λ m u. Filled lim f t m u) (ap countsIn (sym (accepted-answer lim text t full f e) ∙ q)) (sym (accepted-tables lim text t full f e))
-            (file-filled lim f t (reading-proper lim text f e) full),
+        subst (λ us. Filled lim f t ms n (readingOf lim text t ms .tables) us) (sym (marks-left lim text t ms full))
+            (subst₂ (λ m u. Filled lim f t ms m u (unmarked lim ms)) (ap countsIn (sym (accepted-answer lim text t ms full f e) ∙ q)) (sym (accepted-tables lim text t ms full f e))
+            (file-filled lim f t ms (reading-proper lim text f e) full)),
       ))
-      (λ full e r. absurd (false≢true (ap isAccepted (sym (refused-answer lim text t full e r) ∙ q))))
+      (λ full e r. absurd (false≢true (ap isAccepted (sym (refused-answer lim text t ms full e r) ∙ q))))
 
   -- a refusal is the text's where the tables are full
-  text-fault : areFull lim t ≡ true → (e : Fault) → readingOf lim text t .answer ≡ R.Refused e → readText lim text ≡ refused e
+  text-fault : fullMarked lim t ms ≡ true → (e : Fault) → readingOf lim text t ms .answer ≡ R.Refused e → readText lim text ≡ refused e
   text-fault full e q =
-      by-reading (readText lim text) (readText lim text) refl (λ f g. absurd (true≢false (ap isAccepted (sym (accepted-answer lim text t full f g) ∙ q))))
-      (λ d r. r ∙ ap refused (ap faultIn (sym (refused-answer lim text t full d r) ∙ q)))
+      by-reading (readText lim text) (readText lim text) refl (λ f g. absurd (true≢false (ap isAccepted (sym (accepted-answer lim text t ms full f g) ∙ q))))
+      (λ d r. r ∙ ap refused (ap faultIn (sym (refused-answer lim text t ms full d r) ∙ q)))
 
   -- and reason 1 where one is short
-  short-fault : areFull lim t ≡ false → (e : Fault) → readingOf lim text t .answer ≡ R.Refused e → e ≡ fault TableTooShort
-  short-fault short e q = ap faultIn (sym q ∙ short-answer lim text t short)
+  short-fault : fullMarked lim t ms ≡ false → (e : Fault) → readingOf lim text t ms .answer ≡ R.Refused e → e ≡ fault TableTooShort
+  short-fault short e q = ap faultIn (sym q ∙ short-answer lim text t ms short)
 
   -- refused, it leaves all unchanged, by reason 1, or tables 0
-  pub reading-refused : (e : Fault) → readingOf lim text t .answer ≡ R.Refused e
-      → LeftAlone lim t e (readingOf lim text t .tables) ⊎ Emptied lim text t e (readingOf lim text t .tables)
+  pub reading-refused : (e : Fault) → readingOf lim text t ms .answer ≡ R.Refused e
+      → LeftAlone lim t ms e (readingOf lim text t ms .tables) (readingOf lim text t ms .marks)
+      ⊎ Emptied lim text t ms e (readingOf lim text t ms .tables) (readingOf lim text t ms .marks)
   reading-refused e q =
-      by-cases (areFull lim t)
+      by-cases (fullMarked lim t ms)
       (λ full.
       let r = text-fault full e q in
-      inr (subst (λ u. Emptied lim text t e u) (sym (refused-tables lim text t full e r)) (emptied lim text t e full r)))
+      inr (subst₂ (λ u us. Emptied lim text t ms e u us) (sym (refused-tables lim text t ms full e r)) (sym (marks-left lim text t ms full)) (emptied lim text t ms e full r)))
       (λ short. inl (record {
         short = short;
         reason = short-fault short e q;
-        left = ap (λ (l : Leaves Read). l .tables) (short-reading lim text t short);
+        left = ap (λ (l : Leaves Read). l .tables) (short-reading lim text t ms short);
+        marks = ap (λ (l : Leaves Read). l .marks) (short-reading lim text t ms short);
         values = ap (λ (x : Fault). readValues (R.Refused x)) (short-fault short e q);
-        disagrees = none-agree lim (readingOf lim text t .tables);
+        disagrees = tables-disagree lim (readingOf lim text t ms .tables) (readingOf lim text t ms .marks) noCounts (none-agree lim (readingOf lim text t ms .tables));
       }))
 
   -- every text is accepted or refused, and none is both
-  pub reading-either : ((n : Counts) × (readingOf lim text t .answer ≡ R.Accepted n)) ⊎ ((e : Fault) × (readingOf lim text t .answer ≡ R.Refused e))
+  pub reading-either : ((n : Counts) × (readingOf lim text t ms .answer ≡ R.Accepted n)) ⊎ ((e : Fault) × (readingOf lim text t ms .answer ≡ R.Refused e))
   reading-either =
-      by-outcome lim text t (λ s. inr (fault TableTooShort, short-answer lim text t s))
-      (λ full f e. inl (countsOf (asRead f), accepted-answer lim text t full f e)) (λ full e r. inr (e, refused-answer lim text t full e r))
+      by-outcome lim text t ms (λ s. inr (fault TableTooShort, short-answer lim text t ms s))
+      (λ full f e. inl (countsOf (asRead f), accepted-answer lim text t ms full f e)) (λ full e r. inr (e, refused-answer lim text t ms full e r))
 
-  pub reading-not-both : (n : Counts) (e : Fault) → readingOf lim text t .answer ≡ R.Accepted n → readingOf lim text t .answer ≡ R.Refused e → ⊥
+  pub reading-not-both : (n : Counts) (e : Fault) → readingOf lim text t ms .answer ≡ R.Accepted n → readingOf lim text t ms .answer ≡ R.Refused e → ⊥
   reading-not-both n e a r = true≢false (ap isAccepted (sym a ∙ r))
 
   -- accepted exactly if the tables are full and the text says a file
-  pub accepted-exactly : ((n : Counts) × (readingOf lim text t .answer ≡ R.Accepted n)) ↔ ((areFull lim t ≡ true) × ((f : File) × (readText lim text ≡ accepted f)))
+  pub accepted-exactly : ((n : Counts) × (readingOf lim text t ms .answer ≡ R.Accepted n)) ↔ ((fullMarked lim t ms ≡ true) × ((f : File) × (readText lim text ≡ accepted f)))
   accepted-exactly = (
     λ a. let h = reading-accepted (a .0) (a .1) in (h .1, (h .0, h .2)),
-    λ h. (countsOf (asRead (h .1 .0)), accepted-answer lim text t (h .0) (h .1 .0) (h .1 .1)),
+    λ h. (countsOf (asRead (h .1 .0)), accepted-answer lim text t ms (h .0) (h .1 .0) (h .1 .1)),
   )
 
   -- refused exactly if a table is short, or the tables are full and the text is at fault
   pub refused-exactly : (e : Fault)
-      → (readingOf lim text t .answer ≡ R.Refused e)
-      ↔ (((areFull lim t ≡ false) × (e ≡ fault TableTooShort)) ⊎ ((areFull lim t ≡ true) × (readText lim text ≡ refused e)))
-  refused-exactly e = (λ q. by-cases (areFull lim t) (λ full. inr (full, text-fault full e q)) (λ short. inl (short, short-fault short e q)), back)
+      → (readingOf lim text t ms .answer ≡ R.Refused e)
+      ↔ (((fullMarked lim t ms ≡ false) × (e ≡ fault TableTooShort)) ⊎ ((fullMarked lim t ms ≡ true) × (readText lim text ≡ refused e)))
+  refused-exactly e = (λ q. by-cases (fullMarked lim t ms) (λ full. inr (full, text-fault full e q)) (λ short. inl (short, short-fault short e q)), back)
     where
-      back : ((areFull lim t ≡ false) × (e ≡ fault TableTooShort)) ⊎ ((areFull lim t ≡ true) × (readText lim text ≡ refused e)) → readingOf lim text t .answer ≡ R.Refused e
-      back (inl h) = short-answer lim text t (h .0) ∙ ap R.Refused (sym (h .1))
-      back (inr h) = refused-answer lim text t (h .0) e (h .1)
+      back : ((fullMarked lim t ms ≡ false) × (e ≡ fault TableTooShort)) ⊎ ((fullMarked lim t ms ≡ true) × (readText lim text ≡ refused e)) → readingOf lim text t ms .answer ≡ R.Refused e
+      back (inl h) = short-answer lim text t ms (h .0) ∙ ap R.Refused (sym (h .1))
+      back (inr h) = refused-answer lim text t ms (h .0) e (h .1)
 
   -- which reason is given
 
-  full-reason : areFull lim t ≡ true → reasonGiven lim text t ≡ reasonIn (readText lim text)
-  full-reason h = ap (λ (l : Leaves Read). readValues (l .answer) .reason) (full-reading lim text t h) ∙ leaves-reason lim t (readText lim text)
+  full-reason : fullMarked lim t ms ≡ true → reasonGiven lim text t ms ≡ reasonIn (readText lim text)
+  full-reason h = ap (λ (l : Leaves Read). readValues (l .answer) .reason) (full-reading lim text t ms h) ∙ leaves-reason lim t ms (readText lim text)
 
-  short-reason : areFull lim t ≡ false → reasonGiven lim text t ≡ 1
-  short-reason h = ap (λ (a : Read). readValues a .reason) (short-answer lim text t h)
+  short-reason : fullMarked lim t ms ≡ false → reasonGiven lim text t ms ≡ 1
+  short-reason h = ap (λ (a : Read). readValues a .reason) (short-answer lim text t ms h)
 
   -- a reason of the text is given where the tables are full
-  where-full : (k : ℕ) {X : Type 0} → (k ≡ 1 → ⊥) → (reasonIn (readText lim text) ≡ k) ↔ X → (reasonGiven lim text t ≡ k) ↔ ((areFull lim t ≡ true) × X)
+  where-full : (k : ℕ) {X : Type 0} → (k ≡ 1 → ⊥) → (reasonIn (readText lim text) ≡ k) ↔ X → (reasonGiven lim text t ms ≡ k) ↔ ((fullMarked lim t ms ≡ true) × X)
   where-full k other exactly = (
-    λ q. by-cases (areFull lim t) (λ full. (full, exactly .0 (sym (full-reason full) ∙ q))) (λ short. absurd (other (sym q ∙ short-reason short))),
+    λ q. by-cases (fullMarked lim t ms) (λ full. (full, exactly .0 (sym (full-reason full) ∙ q))) (λ short. absurd (other (sym q ∙ short-reason short))),
     λ h. full-reason (h .0) ∙ exactly .1 (h .1),
   )
 
-  from-left : (e : Fault) → (namesLine (e .reason) ≡ true) ⊎ (e .reason ≡ NoClause) → (readingOf lim text t .answer ≡ R.Refused e) ↔ Stopped lim text t e
+  from-left : (e : Fault) → (namesLine (e .reason) ≡ true) ⊎ (e .reason ≡ NoClause) → (readingOf lim text t ms .answer ≡ R.Refused e) ↔ Stopped lim text t ms e
   from-left e late = (
-    λ q. by-cases (areFull lim t)
+    λ q. by-cases (fullMarked lim t ms)
         (λ full.
         let r = text-fault full e q in
         let n = ap reasonIn r in
@@ -359,67 +391,81 @@ module _ (lim : Limits) (text : List ℕ) (t : Tables) where
         let h = stops-exactly lim text s c e .0 r in
         record { full = full; short = s; closed = c; cursor = h .0; draft = h .1; comes = h .2; fails = h .3 })))
         (λ short. absurd (omega (arith, late-number (e .reason) late, ap (λ (x : Fault). numberOf (x .reason)) (short-fault short e q)))),
-    λ h. refused-answer lim text t (h .full) e (stops-exactly lim text (h .short) (h .closed) e .1 (h .cursor, h .draft, h .comes, h .fails)),
+    λ h. refused-answer lim text t ms (h .full) e (stops-exactly lim text (h .short) (h .closed) e .1 (h .cursor, h .draft, h .comes, h .fails)),
   )
 
-  pub reading-given : Given lim text t
+  pub reading-given : Given lim text t ms
   reading-given =
       record {
-        reason-1 = (λ q. by-cases (areFull lim t) (λ full. absurd (text-1 lim text (sym (full-reason full) ∙ q))) (λ short. short), short-reason);
+        reason-1 = (λ q. by-cases (fullMarked lim t ms) (λ full. absurd (text-1 lim text (sym (full-reason full) ∙ q))) (λ short. short), short-reason);
         reason-2 = where-full 2 (λ e. omega arith) (text-2 lim text);
         reason-3 = where-full 3 (λ e. omega arith) (text-3 lim text);
         from-left = from-left;
         reason-9 = where-full 9 (λ e. omega arith) (text-9 lim text);
-        no-other = λ e q. by-cases (areFull lim t) (λ full. inr (text-reason lim text e (text-fault full e q)))
+        no-other = λ e q. by-cases (fullMarked lim t ms) (λ full. inr (text-reason lim text e (text-fault full e q)))
             (λ short. inl (ap (λ (x : Fault). x .reason) (short-fault short e q)));
         no-reason = where-full 0 (λ e. omega arith) (text-0 lim text);
       }
 
   -- the tables left agree with the counts given exactly where no reason is given
-  pub reading-agrees : (reasonGiven lim text t ≡ 0) ↔ (agree lim (countsGiven lim text t) (readingOf lim text t .tables) ≡ true)
+  pub reading-agrees : (reasonGiven lim text t ms ≡ 0) ↔ (agreeMarked lim (countsGiven lim text t ms) (readingOf lim text t ms .tables) (readingOf lim text t ms .marks) ≡ true)
   reading-agrees = (
-    λ q. by-outcome lim text t (λ s. absurd (omega (arith, short-reason s)))
-        (λ full f e. let a = accepted-answer lim text t full f e in given a ∙ reading-accepted (countsOf (asRead f)) a .3 .stands .agrees)
+    λ q. by-outcome lim text t ms (λ s. absurd (omega (arith, short-reason s)))
+        (λ full f e. let a = accepted-answer lim text t ms full f e in given a ∙ reading-accepted (countsOf (asRead f)) a .3 .stands .agrees)
         (λ full e r.
         let a = text-0 lim text .0 (sym (full-reason full) ∙ q) in
-        absurd (reading-not-both (countsOf (asRead (a .0))) e (accepted-answer lim text t full (a .0) (a .1)) (refused-answer lim text t full e r))),
-    λ h. by-outcome lim text t (λ s. absurd (disagrees (fault TableTooShort) h (short-answer lim text t s))) (λ full f e. full-reason full ∙ ap reasonIn e)
-        (λ full e r. absurd (disagrees e h (refused-answer lim text t full e r))),
+        absurd (reading-not-both (countsOf (asRead (a .0))) e (accepted-answer lim text t ms full (a .0) (a .1)) (refused-answer lim text t ms full e r))),
+    λ h. by-outcome lim text t ms (λ s. absurd (disagrees (fault TableTooShort) h (short-answer lim text t ms s))) (λ full f e. full-reason full ∙ ap reasonIn e)
+        (λ full e r. absurd (disagrees e h (refused-answer lim text t ms full e r))),
   )
     where
-      given : {a : Read} → readingOf lim text t .answer ≡ a
-          → agree lim (countsGiven lim text t) (readingOf lim text t .tables) ≡ agree lim (readValues a .counts) (readingOf lim text t .tables)
-      given e = ap (λ (a : Read). agree lim (readValues a .counts) (readingOf lim text t .tables)) e
+      given : {a : Read} → readingOf lim text t ms .answer ≡ a
+          → agreeMarked lim (countsGiven lim text t ms) (readingOf lim text t ms .tables) (readingOf lim text t ms .marks)
+          ≡ agreeMarked lim (readValues a .counts) (readingOf lim text t ms .tables) (readingOf lim text t ms .marks)
+      given e = ap (λ (a : Read). agreeMarked lim (readValues a .counts) (readingOf lim text t ms .tables) (readingOf lim text t ms .marks)) e
 
-      disagrees : (e : Fault) → agree lim (countsGiven lim text t) (readingOf lim text t .tables) ≡ true → readingOf lim text t .answer ≡ R.Refused e → ⊥
-      disagrees e h q = true≢false (sym h ∙ given q ∙ none-agree lim (readingOf lim text t .tables))
+      disagrees : (e : Fault) → agreeMarked lim (countsGiven lim text t ms) (readingOf lim text t ms .tables) (readingOf lim text t ms .marks) ≡ true
+          → readingOf lim text t ms .answer ≡ R.Refused e → ⊥
+      disagrees e h q =
+          true≢false (sym h ∙ given q ∙ tables-disagree lim (readingOf lim text t ms .tables) (readingOf lim text t ms .marks) noCounts (none-agree lim (readingOf lim text t ms .tables)))
 
 -- ---- what stood before makes no difference
 
 module _ (lim : Limits) (text : List ℕ) where
-  leaves-by : (t u : Tables) → each drop (fullSizes lim) t ≡ each drop (fullSizes lim) u → readLeaves lim t (readText lim text) ≡ readLeaves lim u (readText lim text)
+  leaves-by : (t u : Tables) (ms ns : List ℕ) → each drop (fullSizes lim) t ≡ each drop (fullSizes lim) u → drop (lim .terms) ms ≡ drop (lim .terms) ns
+      → readLeaves lim t ms (readText lim text) ≡ readLeaves lim u ns (readText lim text)
   unfolding readLeaves
-  leaves-by t u same =
+  leaves-by t u ms ns same beyond =
       by-reading (readText lim text) (readText lim text) refl
-      (λ f e. rw e (ap (λ (w : Tables). record { answer = R.Accepted (countsOf (asRead f)); tables = w }) (holding-by lim (asRead f) t u (reading-valid lim text f e) same)))
-      (λ e r. rw r (ap (λ (w : Tables). record { answer = R.Refused e; tables = w }) (cleared-by lim t u same)))
+      (λ f e. rw e (both-left refl (holding-by lim (asRead f) t u (reading-valid lim text f e) same) (unmarked-by lim ms ns beyond)))
+      (λ e r. rw r (both-left refl (cleared-by lim t u same) (unmarked-by lim ms ns beyond)))
 
   -- full tables that are the same past their full sizes are read into alike
-  pub reading-by : (t u : Tables) → areFull lim t ≡ true → areFull lim u ≡ true → each drop (fullSizes lim) t ≡ each drop (fullSizes lim) u
-      → readingOf lim text t ≡ readingOf lim text u
-  reading-by t u ft fu same = full-reading lim text t ft ∙ leaves-by t u same ∙ sym (full-reading lim text u fu)
+  pub reading-by : (t u : Tables) (ms ns : List ℕ) → fullMarked lim t ms ≡ true → fullMarked lim u ns ≡ true → each drop (fullSizes lim) t ≡ each drop (fullSizes lim) u
+      → drop (lim .terms) ms ≡ drop (lim .terms) ns → readingOf lim text t ms ≡ readingOf lim text u ns
+  reading-by t u ms ns ft fu same beyond = full-reading lim text t ms ft ∙ leaves-by t u ms ns same beyond ∙ sym (full-reading lim text u ns fu)
 
 -- a reading into tables that another has left is as one into the tables before it
-pub reading-over : (lim : Limits) (first second : List ℕ) (t : Tables) → readingOf lim second (readingOf lim first t .tables) ≡ readingOf lim second t
-reading-over lim first second t =
-    by-outcome lim first t (λ s. ap (λ (l : Leaves Read). readingOf lim second (l .tables)) (short-reading lim first t s))
+pub reading-over : (lim : Limits) (first second : List ℕ) (t : Tables) (ms : List ℕ)
+    → readingOf lim second (readingOf lim first t ms .tables) (readingOf lim first t ms .marks) ≡ readingOf lim second t ms
+reading-over lim first second t ms =
+    by-outcome lim first t ms (λ s. ap (λ (l : Leaves Read). readingOf lim second (l .tables) (l .marks)) (short-reading lim first t ms s))
     (λ full f e.
     let v = reading-valid lim first f e in
-    ap (readingOf lim second) (accepted-tables lim first t full f e)
-    ∙ reading-by lim second (holding lim (asRead f) t) t (holding-full lim (asRead f) t v full) full (holding-beyond lim (asRead f) t v))
+    ap₂ (readingOf lim second) (accepted-tables lim first t ms full f e) (marks-left lim first t ms full)
+    ∙ reading-by lim second (holding lim (asRead f) t) t (unmarked lim ms) ms (again full (holding lim (asRead f) t) (holding-full lim (asRead f) t v (full-tables lim t ms full))) full
+    (holding-beyond lim (asRead f) t v)
+    (unmarked-drop lim ms))
     (λ full e r.
-    ap (readingOf lim second) (refused-tables lim first t full e r) ∙ reading-by lim second (cleared lim t) t (cleared-full lim t full) full (cleared-beyond lim t))
+    ap₂ (readingOf lim second) (refused-tables lim first t ms full e r) (marks-left lim first t ms full)
+    ∙ reading-by lim second (cleared lim t) t (unmarked lim ms) ms (again full (cleared lim t) (cleared-full lim t (full-tables lim t ms full))) full
+    (cleared-beyond lim t)
+    (unmarked-drop lim ms))
+  where
+    again : fullMarked lim t ms ≡ true → (u : Tables) → areFull lim u ≡ true → fullMarked lim u (unmarked lim ms) ≡ true
+    again full u h = full-both lim u (unmarked lim ms) h (unmarked-full lim ms (full-marks lim t ms full))
 
 -- read again, the same: what stood before makes no difference
-pub read-twice : (lim : Limits) (text : List ℕ) (t : Tables) → readingOf lim text (readingOf lim text t .tables) ≡ readingOf lim text t
-read-twice lim text t = reading-over lim text text t
+pub read-twice : (lim : Limits) (text : List ℕ) (t : Tables) (ms : List ℕ)
+    → readingOf lim text (readingOf lim text t ms .tables) (readingOf lim text t ms .marks) ≡ readingOf lim text t ms
+read-twice lim text t ms = reading-over lim text text t ms

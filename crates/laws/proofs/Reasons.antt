@@ -9,7 +9,7 @@ use lib.ListN.{length, getD}
 use lib.Dec.{eqb, ltb, lit<}
 use borrow.Author.Tests.{ltb-true, eqb-false, not-true}
 use Rattle.written.specs.declared.Reason.{Reason}
-use Rattle.written.specs.declared.Reason.the-variants.{TableTooShort, TextTooLong, TextCut, ByteNotAllowed, NinthByte, TooManyTerms, TooManyLiterals, TooManyClauses, NoClause, SheetForm, OutOfRange, TablesDisagree, UnknownTerm, ListTooLong, BlankLine}
+use Rattle.written.specs.declared.Reason.the-variants.{TableTooShort, TextTooLong, TextCut, ByteNotAllowed, NinthByte, TooManyTerms, TooManyLiterals, TooManyClauses, NoClause, SheetForm, OutOfRange, TablesDisagree, UnknownTerm, ListTooLong, BlankLine, PinnedTerm}
 use Rattle.written.specs.Lists.{all}
 use Rattle.written.specs.Reasons.{numberOf}
 use Rattle.laws.specs.Reasons.{namesLine, ofText, ofSheet}
@@ -17,7 +17,7 @@ use Rattle.laws.proofs.All.{all-getD}
 
 -- ---- each reason by its number
 
--- no reason is 0
+-- no reason is 0, and none is 16 to 19
 abbrev pub reasons : List Reason
 reasons =
     TableTooShort
@@ -36,6 +36,11 @@ reasons =
     ∷ UnknownTerm
     ∷ ListTooLong
     ∷ BlankLine
+    ∷ TableTooShort
+    ∷ TableTooShort
+    ∷ TableTooShort
+    ∷ TableTooShort
+    ∷ PinnedTerm
     ∷ []
 
 pub reason-at : (r : Reason) → getD reasons (numberOf r) TableTooShort ≡ r
@@ -54,6 +59,7 @@ reason-at TablesDisagree = refl
 reason-at UnknownTerm = refl
 reason-at ListTooLong = refl
 reason-at BlankLine = refl
+reason-at PinnedTerm = refl
 
 pub reason-below : (r : Reason) → numberOf r < length reasons
 reason-below TableTooShort = lit< tt
@@ -71,6 +77,7 @@ reason-below TablesDisagree = lit< tt
 reason-below UnknownTerm = lit< tt
 reason-below ListTooLong = lit< tt
 reason-below BlankLine = lit< tt
+reason-below PinnedTerm = lit< tt
 
 -- ---- what holds of each holds of all
 

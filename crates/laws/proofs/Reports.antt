@@ -85,16 +85,16 @@ report-length e w f c n =
 -- ---- what is printed
 
 -- the report of walks in range over a file within the limits
-pub walked-length : (lim : Limits) (o : Order) (f : File) → Ranged o → length (f .names) ≤ lim .terms → lim .terms < 10 ^ 9
-    → length (report (walkOver o f)) ≤ reportSize lim
+pub walked-length : (lim : Limits) (o : Order) (ms : List ℕ) (f : File) → Ranged o → length (f .names) ≤ lim .terms → lim .terms < 10 ^ 9
+    → length (report (walkOver o ms f)) ≤ reportSize lim
 unfolding reportSize
-walked-length lim o f r few h =
-    let same : length (walkOver o f .last .state .file .names) ≡ length (f .names) = ap (λ (g : File). length (g .names)) (end-file o f) in
+walked-length lim o ms f r few h =
+    let same : length (walkOver o ms f .last .state .file .names) ≡ length (f .names) = ap (λ (g : File). length (g .names)) (end-file o ms f) in
     let most : o .flips * o .walks ≤ flipsEach .most * walksAll .most = mul-le-mul (r .flips-most) (r .walks-most) in
-    let flips = flips-most o f in
-    let walks = walks-most o f in
+    let flips = flips-most o ms f in
+    let walks = walks-most o ms f in
     let w = r .walks-most in
-    let size = report-length (walkOver o f) (omega arith) (omega arith) (omega (arith, end-chosen o f)) (omega arith) in
+    let size = report-length (walkOver o ms f) (omega arith) (omega arith) (omega (arith, end-chosen o ms f)) (omega arith) in
     omega arith
 
 -- a refusal whose line is among those of a text within the limits, or of the sheet
@@ -106,7 +106,7 @@ refusal-fits lim e short h = let n = refusal-length e 21 (omega arith) (omega ar
 module _ (lim : Limits) (few : lim .terms < 10 ^ 9) (short : lim .text + 1 < 10 ^ 20) where
   reading-fits : (o : Order) (t : List ℕ) → Ranged o → length t ≤ lim .text → (r : Reading) → readText lim t ≡ r → length (said (afterReading o r)) ≤ reportSize lim
   unfolding said afterReading
-  reading-fits o t r h (accepted f) q = walked-length lim o f r (reading-proper lim t f q .few-terms) few
+  reading-fits o t r h (accepted f) q = walked-length lim o [] f r (reading-proper lim t f q .few-terms) few
   reading-fits o t r h (refused e) q = refusal-fits lim e short (let n = refusal-line-bound lim t e q in omega arith)
 
   sheet-fits : (input : List ℕ) → length input ≤ lim .text → (s : Ordered) → Judged (length input) s → length (said (afterSheet lim input s)) ≤ reportSize lim

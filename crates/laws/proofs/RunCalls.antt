@@ -25,8 +25,9 @@ use Rattle.written.specs.Reading.{accepted, readText}
 use Rattle.written.specs.Walk.{Outcome, isFound, walkOver}
 use Rattle.written.specs.Tables.{Tables, each, fullSizes, areFull, over, holding, countsOf}
 use Rattle.written.specs.Printed.{decimal, line, answer, chosen, refusal, report}
+use Rattle.written.specs.Marks.{marksFull, fullMarked, unmarked}
 use Rattle.written.specs.Outcomes.{Leaves, walkLeaves, walkOf, readingOf}
-use Rattle.written.specs.Program.{Course, unbegun, unread, walked, courseOf, said, printed, reportSize, tablesAfter, Ran, reported, runRefused, ran, runOf}
+use Rattle.written.specs.Program.{Course, unbegun, unread, walked, courseOf, said, printed, reportSize, tablesAfter, marksAfter, Ran, reported, runRefused, ran, runOf}
 use Rattle.laws.specs.Valid.{isClause, Valid}
 use Rattle.laws.specs.Calls.{Stands}
 use Rattle.laws.specs.ReadCalls.{countsGiven}
@@ -39,11 +40,13 @@ use Rattle.laws.proofs.Padding.{over-take, over-drop, over-by}
 use Rattle.laws.proofs.Literals.{some-true}
 use Rattle.laws.proofs.Counted.{none-listed, some-listed}
 use Rattle.laws.proofs.Sizes.{clause-below}
+use Rattle.laws.proofs.Marks.{unmarked-full, unmarked-drop, unmarked-by, unmarked-marked, full-tables, full-marks, full-both}
 use Rattle.laws.proofs.Holding.{holding-full, cleared-full, holding-beyond, cleared-beyond, holding-by, cleared-by, holding-again, cleared-again}
 use Rattle.laws.proofs.Readings.{reading-proper}
 use Rattle.laws.proofs.Reasons.{text-not-sheet}
 use Rattle.laws.proofs.Faults.{refusal-line}
-use Rattle.laws.proofs.Walks.{found-covers, gave-up-misses, gave-up-walks, gave-up-flips}
+use Rattle.laws.proofs.Walks.{found-covers, gave-up-misses, gave-up-walks}
+use Rattle.laws.proofs.Pins.{gave-up-flips}
 use Rattle.laws.proofs.Endings.{end-file}
 use Rattle.laws.proofs.Picks.{has-below}
 use Rattle.laws.proofs.Valids.{end-valid}
@@ -57,32 +60,32 @@ use Rattle.laws.proofs.Courses.{long-course, sheet-course, text-course,
 
 -- ---- with a table or the buffer shorter than its full size, and with neither
 
-module _ (lim : Limits) (input : List ℕ) (t : Tables) (b : List ℕ) where
-  short-table : areFull lim t ≡ false → runOf lim input t b ≡ record { answer = runRefused; tables = t; buffer = b }
+module _ (lim : Limits) (input : List ℕ) (t : Tables) (ms b : List ℕ) where
+  short-table : fullMarked lim t ms ≡ false → runOf lim input t ms b ≡ record { answer = runRefused; tables = t; marks = ms; buffer = b }
   unfolding runOf
   short-table h = rw h refl
 
-  short-buffer : length b < reportSize lim → runOf lim input t b ≡ record { answer = runRefused; tables = t; buffer = b }
+  short-buffer : length b < reportSize lim → runOf lim input t ms b ≡ record { answer = runRefused; tables = t; marks = ms; buffer = b }
   unfolding runOf
-  short-buffer h = by-cases (areFull lim t) (λ full. rw (full, lt-ltb (length b) (reportSize lim) h) refl) (λ short. rw short refl)
+  short-buffer h = by-cases (fullMarked lim t ms) (λ full. rw (full, lt-ltb (length b) (reportSize lim) h) refl) (λ short. rw short refl)
 
   -- nothing is printed, and all is as it was
-  pub run-short : (areFull lim t ≡ false) ⊎ (length b < reportSize lim) → runOf lim input t b ≡ record { answer = runRefused; tables = t; buffer = b }
+  pub run-short : (fullMarked lim t ms ≡ false) ⊎ (length b < reportSize lim) → runOf lim input t ms b ≡ record { answer = runRefused; tables = t; marks = ms; buffer = b }
   run-short (inl h) = short-table h
   run-short (inr h) = short-buffer h
 
-  pub run-ran : areFull lim t ≡ true → reportSize lim ≤ length b → runOf lim input t b ≡ ran lim t b (courseOf lim input)
+  pub run-ran : fullMarked lim t ms ≡ true → reportSize lim ≤ length b → runOf lim input t ms b ≡ ran lim t ms b (courseOf lim input)
   unfolding runOf
   run-ran full room = rw (full, le-ltb (length b) (reportSize lim) room) refl
 
-  by-room : {A : Type 0} → (areFull lim t ≡ true → reportSize lim ≤ length b → A) → ((areFull lim t ≡ false) ⊎ (length b < reportSize lim) → A) → A
-  by-room told short = by-cases (areFull lim t) (λ full. by-lt (length b) (reportSize lim) (λ l. short (inr l)) (told full)) (λ h. short (inl h))
+  by-room : {A : Type 0} → (fullMarked lim t ms ≡ true → reportSize lim ≤ length b → A) → ((fullMarked lim t ms ≡ false) ⊎ (length b < reportSize lim) → A) → A
+  by-room told short = by-cases (fullMarked lim t ms) (λ full. by-lt (length b) (reportSize lim) (λ l. short (inr l)) (told full)) (λ h. short (inl h))
 
   abbrev answered : RunAnswer
-  answered = runOf lim input t b .answer
+  answered = runOf lim input t ms b .answer
 
   -- a run that was not begun writes nothing, and every other writes something
-  pub nothing-exactly : (answered .length ≡ 0) ↔ ((areFull lim t ≡ false) ⊎ (length b < reportSize lim))
+  pub nothing-exactly : (answered .length ≡ 0) ↔ ((fullMarked lim t ms ≡ false) ⊎ (length b < reportSize lim))
   unfolding ran printed
   nothing-exactly = (
     λ q. by-room
@@ -92,7 +95,7 @@ module _ (lim : Limits) (input : List ℕ) (t : Tables) (b : List ℕ) where
   )
 
   -- it is refused by 1, and no other reason is given
-  pub reason-exactly : (answered .reason ≡ 1) ↔ ((areFull lim t ≡ false) ⊎ (length b < reportSize lim))
+  pub reason-exactly : (answered .reason ≡ 1) ↔ ((fullMarked lim t ms ≡ false) ⊎ (length b < reportSize lim))
   unfolding ran
   reason-exactly = (
     λ q. by-room (λ full room. absurd (omega (arith, ap (λ (r : Ran). r .answer .reason) (run-ran full room), q))) (λ h. h),
@@ -121,15 +124,15 @@ isWalked (unread d) = false
 isWalked (walked r) = true
 
 module _ (lim : Limits) (input : List ℕ) where
-  walks-made : (s : Sheet) (f : File) → Begun lim input s → readText lim (textAfter s input) ≡ accepted f → Walks lim input (walkOver (s .order) f)
+  walks-made : (s : Sheet) (f : File) → Begun lim input s → readText lim (textAfter s input) ≡ accepted f → Walks lim input (walkOver (s .order) [] f)
   walks-made s f b q =
       record {
         sheet = s;
         begun = b;
         range = subst (Judged (length input)) (b .sheet) (sheet-judged input) .0;
-        read = q ∙ ap accepted (sym (end-file (s .order) f));
-        made = ap (walkOver (s .order)) (sym (end-file (s .order) f));
-        valid = end-valid lim (s .order) f (reading-proper lim (textAfter s input) f q);
+        read = q ∙ ap accepted (sym (end-file (s .order) [] f));
+        made = ap (walkOver (s .order) []) (sym (end-file (s .order) [] f));
+        valid = end-valid lim (s .order) [] f (reading-proper lim (textAfter s input) f q);
       }
 
   -- walks come to an end exactly if they are those that the sheet orders over the file that the text says
@@ -150,7 +153,7 @@ module _ (lim : Limits) (input : List ℕ) where
   abbrev leaves : Tables → Tables
   leaves t = tablesAfter lim t course
 
-  ends-valid : (s : Sheet) (f : File) → Begun lim input s → readText lim (textAfter s input) ≡ accepted f → Valid lim (walkOver (s .order) f .last .state)
+  ends-valid : (s : Sheet) (f : File) → Begun lim input s → readText lim (textAfter s input) ≡ accepted f → Valid lim (walkOver (s .order) [] f .last .state)
   ends-valid s f b q = walks-made lim input s f b q .valid
 
   leaves-full : (t : Tables) → areFull lim t ≡ true → areFull lim (leaves t) ≡ true
@@ -178,24 +181,58 @@ module _ (lim : Limits) (input : List ℕ) where
       by-course lim input (λ c. ((a : Ordered) → c ≡ unbegun a → ⊥) → tablesAfter lim t c ≡ tablesAfter lim u c) (λ l n. cleared-by lim t u same)
       (λ e h q n. absurd (n _ refl)) (λ s e b q n. cleared-by lim t u same) (λ s f b q n. holding-by lim _ t u (ends-valid s f b q) same)
 
-  ran-twice : (t : Tables) (b : List ℕ) → ran lim (ran lim t b course .tables) (ran lim t b course .buffer) course ≡ ran lim t b course
+  -- the marks by the course
+  abbrev marks : List ℕ → List ℕ
+  marks ms = marksAfter lim ms course
+
+  marks-full : (ms : List ℕ) → marksFull lim ms ≡ true → marksFull lim (marks ms) ≡ true
+  unfolding marksAfter
+  marks-full ms full =
+      by-course lim input (λ c. marksFull lim (marksAfter lim ms c) ≡ true) (λ l. unmarked-full lim ms full) (λ e h q. full) (λ s e b q. unmarked-full lim ms full)
+      (λ s f b q. unmarked-full lim ms full)
+
+  marks-beyond : (ms : List ℕ) → drop (lim .terms) (marks ms) ≡ drop (lim .terms) ms
+  unfolding marksAfter
+  marks-beyond ms =
+      by-course lim input (λ c. drop (lim .terms) (marksAfter lim ms c) ≡ drop (lim .terms) ms) (λ l. unmarked-drop lim ms) (λ e h q. refl)
+      (λ s e b q. unmarked-drop lim ms) (λ s f b q. unmarked-drop lim ms)
+
+  marks-again : (ms : List ℕ) → marks (marks ms) ≡ marks ms
+  unfolding marksAfter
+  marks-again ms =
+      let again = unmarked-by lim (unmarked lim ms) ms (unmarked-drop lim ms) in
+      by-course lim input (λ c. marksAfter lim (marksAfter lim ms c) c ≡ marksAfter lim ms c) (λ l. again) (λ e h q. refl) (λ s e b q. again) (λ s f b q. again)
+
+  -- once the sheet is accepted, only what lies past the full size shows
+  marks-by : (ms ns : List ℕ) → drop (lim .terms) ms ≡ drop (lim .terms) ns → ((a : Ordered) → course ≡ unbegun a → ⊥) → marks ms ≡ marks ns
+  unfolding marksAfter
+  marks-by ms ns same =
+      let by = unmarked-by lim ms ns same in
+      by-course lim input (λ c. ((a : Ordered) → c ≡ unbegun a → ⊥) → marksAfter lim ms c ≡ marksAfter lim ns c) (λ l n. by) (λ e h q n. absurd (n _ refl))
+      (λ s e b q n. by) (λ s f b q n. by)
+
+  ran-twice : (t : Tables) (ms b : List ℕ) → ran lim (ran lim t ms b course .tables) (ran lim t ms b course .marks) (ran lim t ms b course .buffer) course
+      ≡ ran lim t ms b course
   unfolding ran
-  ran-twice t b =
-      let text = said course in
-      ap₂ (λ (u : Tables) (a : List ℕ). record { answer = reported (length text); tables = u; buffer = a }) (leaves-again t)
-      (over-by text (over text b) b (length text) refl (over-drop text b (length text) refl))
+  ran-twice t ms b =
+      λ i. record {
+        answer = reported (length (said course));
+        tables = leaves-again t i;
+        marks = marks-again ms i;
+        buffer = over-by (said course) (over (said course) b) b (length (said course)) refl (over-drop (said course) b (length (said course)) refl) i;
+      }
 
 module _ (lim : Limits) (few : lim .terms < 10 ^ 9) (short : lim .text + 1 < 10 ^ 20) (input : List ℕ) where
   -- no run prints more than its buffer holds
-  pub run-fits : (t : Tables) (b : List ℕ) → runOf lim input t b .answer .length ≤ length b
+  pub run-fits : (t : Tables) (ms b : List ℕ) → runOf lim input t ms b .answer .length ≤ length b
   unfolding ran printed
-  run-fits t b =
-      by-room lim input t b (λ full room. rw (run-ran lim input t b full room) (omega (arith, printed-fits lim few short input)))
-      (λ h. rw (run-short lim input t b h) (omega arith))
+  run-fits t ms b =
+      by-room lim input t ms b (λ full room. rw (run-ran lim input t ms b full room) (omega (arith, printed-fits lim few short input)))
+      (λ h. rw (run-short lim input t ms b h) (omega arith))
 
-  told : (t : Tables) (b : List ℕ) → areFull lim t ≡ true → reportSize lim ≤ length b → Told lim input t b (ran lim t b (courseOf lim input))
+  told : (t : Tables) (ms b : List ℕ) → fullMarked lim t ms ≡ true → reportSize lim ≤ length b → Told lim input t ms b (ran lim t ms b (courseOf lim input))
   unfolding ran printed
-  told t b full room =
+  told t ms b full room =
       let text : List ℕ = said (courseOf lim input) in
       record {
         answer = refl;
@@ -203,34 +240,42 @@ module _ (lim : Limits) (few : lim .terms < 10 ^ 9) (short : lim .text + 1 < 10 
         rest = over-drop text b (length text) refl;
         as-long = over-length text b (omega (arith, printed-fits lim few short input));
         tables = refl;
-        full = leaves-full lim input t full;
+        marks = refl;
+        full = full-both lim _ _ (leaves-full lim input t (full-tables lim t ms full)) (marks-full lim input ms (full-marks lim t ms full));
         beyond = leaves-beyond lim input t;
+        marks-beyond = marks-beyond lim input ms;
       }
 
-  pub run-told : (t : Tables) (b : List ℕ) → areFull lim t ≡ true → reportSize lim ≤ length b → Told lim input t b (runOf lim input t b)
-  run-told t b full room = rw (run-ran lim input t b full room) (told t b full room)
+  pub run-told : (t : Tables) (ms b : List ℕ) → fullMarked lim t ms ≡ true → reportSize lim ≤ length b → Told lim input t ms b (runOf lim input t ms b)
+  run-told t ms b full room = rw (run-ran lim input t ms b full room) (told t ms b full room)
 
-  -- what stood in the tables and the buffer makes no difference to what is printed
-  module _ (t u : Tables) (b c : List ℕ) (ft : areFull lim t ≡ true) (fu : areFull lim u ≡ true) (rb : reportSize lim ≤ length b) (rc : reportSize lim ≤ length c) where
-    pub same-print : take (runOf lim input t b .answer .length) (runOf lim input t b .buffer)
-        ≡ take (runOf lim input u c .answer .length) (runOf lim input u c .buffer)
-    same-print = run-told t b ft rb .first ∙ sym (run-told u c fu rc .first)
+  -- what stood in the tables, the marks and the buffer makes no difference to what is printed
+  module _ (t u : Tables) (ms ns b c : List ℕ) (ft : fullMarked lim t ms ≡ true) (fu : fullMarked lim u ns ≡ true)
+      (rb : reportSize lim ≤ length b) (rc : reportSize lim ≤ length c) where
+    pub same-print : take (runOf lim input t ms b .answer .length) (runOf lim input t ms b .buffer)
+        ≡ take (runOf lim input u ns c .answer .length) (runOf lim input u ns c .buffer)
+    same-print = run-told t ms b ft rb .first ∙ sym (run-told u ns c fu rc .first)
 
     -- nor, once the sheet is accepted, to what is left up to the full sizes
     pub same-tables : each drop (fullSizes lim) t ≡ each drop (fullSizes lim) u → ((a : Ordered) → courseOf lim input ≡ unbegun a → ⊥)
-        → runOf lim input t b .tables ≡ runOf lim input u c .tables
-    same-tables same begun = run-told t b ft rb .tables ∙ leaves-by lim input t u same begun ∙ sym (run-told u c fu rc .tables)
+        → runOf lim input t ms b .tables ≡ runOf lim input u ns c .tables
+    same-tables same begun = run-told t ms b ft rb .tables ∙ leaves-by lim input t u same begun ∙ sym (run-told u ns c fu rc .tables)
+
+    pub same-marks : drop (lim .terms) ms ≡ drop (lim .terms) ns → ((a : Ordered) → courseOf lim input ≡ unbegun a → ⊥)
+        → runOf lim input t ms b .marks ≡ runOf lim input u ns c .marks
+    same-marks same begun = run-told t ms b ft rb .marks ∙ marks-by lim input ms ns same begun ∙ sym (run-told u ns c fu rc .marks)
 
   -- run again, the same: what stood before makes no difference
-  pub run-twice : (t : Tables) (b : List ℕ) → runOf lim input (runOf lim input t b .tables) (runOf lim input t b .buffer) ≡ runOf lim input t b
-  run-twice t b =
-      by-room lim input t b
+  pub run-twice : (t : Tables) (ms b : List ℕ)
+      → runOf lim input (runOf lim input t ms b .tables) (runOf lim input t ms b .marks) (runOf lim input t ms b .buffer) ≡ runOf lim input t ms b
+  run-twice t ms b =
+      by-room lim input t ms b
       (λ full room.
-      let e = run-ran lim input t b full room in
-      let r = run-told t b full room in
-      run-ran lim input (runOf lim input t b .tables) (runOf lim input t b .buffer) (r .full) (omega (arith, r .as-long))
-      ∙ ap (λ (x : Ran). ran lim (x .tables) (x .buffer) (courseOf lim input)) e ∙ ran-twice lim input t b ∙ sym e)
-      (λ h. ap (λ (x : Ran). runOf lim input (x .tables) (x .buffer)) (run-short lim input t b h))
+      let e = run-ran lim input t ms b full room in
+      let r = run-told t ms b full room in
+      run-ran lim input (runOf lim input t ms b .tables) (runOf lim input t ms b .marks) (runOf lim input t ms b .buffer) (r .full) (omega (arith, r .as-long))
+      ∙ ap (λ (x : Ran). ran lim (x .tables) (x .marks) (x .buffer) (courseOf lim input)) e ∙ ran-twice lim input t ms b ∙ sym e)
+      (λ h. ap (λ (x : Ran). runOf lim input (x .tables) (x .marks) (x .buffer)) (run-short lim input t ms b h))
 
 -- ---- refused
 
@@ -269,10 +314,10 @@ module _ (lim : Limits) (input : List ℕ) (t : Tables) where
         unchanged = λ k. absurd (false≢true (sym other ∙ k));
       }
 
-  pub run-refused : (b : List ℕ) (e : Fault) → areFull lim t ≡ true → reportSize lim ≤ length b → printed lim input ≡ refusal e
-      → Refused lim input t e (runOf lim input t b .tables)
+  pub run-refused : (ms b : List ℕ) (e : Fault) → fullMarked lim t ms ≡ true → reportSize lim ≤ length b → printed lim input ≡ refusal e
+      → Refused lim input t e (runOf lim input t ms b .tables)
   unfolding ran
-  run-refused b e full room p = rw (run-ran lim input t b full room) (refused e (prints-refuses lim input e p))
+  run-refused ms b e full room p = rw (run-ran lim input t ms b full room) (refused e (prints-refuses lim input e p))
 
 -- ---- walked
 
@@ -304,29 +349,36 @@ module _ (lim : Limits) (input : List ℕ) (e : Outcome) (w : Walks lim input e)
   unfolding printed said
   prints-report = ap said (run-walks lim input e .1 w)
 
-  module _ (t : Tables) (b : List ℕ) (full : areFull lim t ≡ true) (room : reportSize lim ≤ length b) where
-    left : runOf lim input t b .tables ≡ holding lim (e .last .state) t
+  module _ (t : Tables) (ms b : List ℕ) (full : fullMarked lim t ms ≡ true) (room : reportSize lim ≤ length b) where
+    left : runOf lim input t ms b .tables ≡ holding lim (e .last .state) t
     unfolding ran tablesAfter
-    left = ap (λ (r : Ran). r .tables) (run-ran lim input t b full room) ∙ ap (tablesAfter lim t) (run-walks lim input e .1 w)
+    left = ap (λ (r : Ran). r .tables) (run-ran lim input t ms b full room) ∙ ap (tablesAfter lim t) (run-walks lim input e .1 w)
 
-    -- the tables hold the walks' end
-    pub run-stands : Stands lim (e .last .state) t (countsOf (e .last .state)) (runOf lim input t b .tables)
-    run-stands = rw left (stands-in lim (e .last .state) t valid full)
+    marks-left : runOf lim input t ms b .marks ≡ unmarked lim ms
+    unfolding ran marksAfter
+    marks-left = ap (λ (r : Ran). r .marks) (run-ran lim input t ms b full room) ∙ ap (marksAfter lim ms) (run-walks lim input e .1 w)
+
+    -- the tables hold the walks' end, and no term is marked
+    pub run-stands : Stands lim (e .last .state) t (countsOf (e .last .state)) (runOf lim input t ms b .tables) (runOf lim input t ms b .marks)
+    run-stands =
+        let few : length (valuesAt e) ≤ lim .terms = omega (arith, valid .one-each, valid .proper .few-terms) in
+        rw (left, marks-left) (stands-in lim (e .last .state) t (unmarked lim ms) valid (unmarked-marked lim ms (e .last .state) few (full-marks lim t ms full)) (full-tables lim t ms full))
 
     -- and are those that the library's calls leave, a reading and then a walk
-    pub run-calls : runOf lim input t b .tables
-        ≡ walkOf lim (w .sheet .order) (countsGiven lim (textAfter (w .sheet) input) t) (readingOf lim (textAfter (w .sheet) input) t .tables) .tables
+    pub run-calls : runOf lim input t ms b .tables
+        ≡ walkOf lim (w .sheet .order) (countsGiven lim (textAfter (w .sheet) input) t ms) (readingOf lim (textAfter (w .sheet) input) t ms .tables)
+        (readingOf lim (textAfter (w .sheet) input) t ms .marks) .tables
     unfolding walkLeaves
     run-calls =
         left ∙ ap (λ (r : Outcome). holding lim (r .last .state) t) (w .made)
-        ∙ sym (ap (λ (l : Leaves Walked). l .tables) (walk-read lim (textAfter (w .sheet) input) file order t (w .read) full (w .range)))
+        ∙ sym (ap (λ (l : Leaves Walked). l .tables) (walk-read lim (textAfter (w .sheet) input) file order t ms (w .read) full (w .range)))
 
   -- found
 
   module _ (found : e .found ≡ true) where
     none-left : e .last .state .uncovered ≡ []
     none-left =
-        ap (λ (r : Outcome). r .last .state .uncovered) (w .made) ∙ found-covers order file (sym (ap (λ (r : Outcome). r .found) (w .made)) ∙ found)
+        ap (λ (r : Outcome). r .last .state .uncovered) (w .made) ∙ found-covers order [] file (sym (ap (λ (r : Outcome). r .found) (w .made)) ∙ found)
 
     reads : answerTokens lim input e ≡ literals 5 (namesAt e) (valuesAt e) ++ Line 5 ∷ []
     reads =
@@ -366,20 +418,20 @@ module _ (lim : Limits) (input : List ℕ) (e : Outcome) (w : Walks lim input e)
   -- given up
 
   module _ (up : e .found ≡ false) where
-    gave-up : walkOver order file .found ≡ false
+    gave-up : walkOver order [] file .found ≡ false
     gave-up = sym (ap (λ (r : Outcome). r .found) (w .made)) ∙ up
 
     some-left : 0 < length (e .last .state .uncovered)
     unfolding isFound
     some-left =
-        let none = gave-up-misses order file (omega (arith, ranged order (w .range) .walks-pos)) gave-up in
+        let none = gave-up-misses order [] file (omega (arith, ranged order (w .range) .walks-pos)) gave-up in
         let not-none = eqb-false (length (e .last .state .uncovered)) 0 (ap (λ (r : Outcome). isFound (r .last .state)) (w .made) ∙ none) in
         omega arith
 
     up-answer : GaveUpAnswer lim input e
     up-answer =
-        let all-walks = ap (λ (r : Outcome). r .walks) (w .made) ∙ gave-up-walks order file gave-up in
-        let all-flips = ap (λ (r : Outcome). r .last .flips) (w .made) ∙ gave-up-flips order file gave-up in
+        let all-walks = ap (λ (r : Outcome). r .walks) (w .made) ∙ gave-up-walks order [] file gave-up in
+        let all-flips = ap (λ (r : Outcome). r .last .flips) (w .made) ∙ gave-up-flips lim order [] file (valid .proper) (λ _ _. refl) gave-up in
         record {
           walks = w;
           prints = prints-report ∙ report-up e (order .walks) (order .walks * order .flips) up all-walks all-flips;

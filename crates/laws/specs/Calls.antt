@@ -2,16 +2,25 @@
 use mathlib.Core.Logic.{_⊎_}
 use mathlib.Core.Path.{_≡_}
 use mathlib.Core.Bool.{true}
+use mathlib.Core.List.{List}
+use Prim.Native.Nat.{ℕ}
 use lib.ListN.{take, drop}
 use Rattle.written.specs.declared.Counts.{Counts}
 use Rattle.written.specs.Limits.{Limits}
 use Rattle.written.specs.Clauses.{State}
-use Rattle.written.specs.Tables.{Tables, each, fullSizes, areFull, tablesOf, countsOf, holding}
-use Rattle.written.specs.Agreement.{stateIn, agree}
+use Rattle.written.specs.Tables.{Tables, each, fullSizes, tablesOf, countsOf, holding}
+use Rattle.written.specs.Agreement.{stateIn}
+use Rattle.written.specs.Marks.{marksFull, fullMarked, marksHold, marksRest, agreeMarked}
 use Rattle.laws.specs.Valid.{Valid}
 
--- a call has left the state s: counts n, and tables u where t was lent
-pub record Stands (lim : Limits) (s : State) (t : Tables) (n : Counts) (u : Tables) : Type 0 where
+-- the marks ms go with the state s: "marks are 0 to 2 and each pinned value is as marked", and the rest is 0
+pub record Marked (lim : Limits) (s : State) (ms : List ℕ) : Type 0 where
+  pub full : marksFull lim ms ≡ true
+  pub hold : marksHold ms (s .values) ≡ true
+  pub rest : marksRest lim (countsOf s) ms ≡ true
+
+-- a call has left the state s: counts n, tables u where t was lent, and the marks ms
+pub record Stands (lim : Limits) (s : State) (t : Tables) (n : Counts) (u : Tables) (ms : List ℕ) : Type 0 where
   -- a proper file, a value of 0 or 1 for each term, and the uncovered listed
   pub valid : Valid lim s
   -- "Beside them go four counts by value: terms, clauses, literals, uncovered."
@@ -23,9 +32,11 @@ pub record Stands (lim : Limits) (s : State) (t : Tables) (n : Counts) (u : Tabl
   pub in-full-sizes : each take (fullSizes lim) u ≡ tablesOf lim s
   -- "A lent table may be longer than its full size; the excess is never read or written."
   pub beyond : each drop (fullSizes lim) u ≡ each drop (fullSizes lim) t
-  -- a walk or a flip list on these counts and tables is given neither reason 1 nor reason 12
-  pub full : areFull lim u ≡ true
-  pub agrees : agree lim n u ≡ true
+  -- each pinned term has its marked value
+  pub marked : Marked lim s ms
+  -- a walk, a flip list, a pin or a lift on these counts, tables and marks is given neither reason 1 nor reason 12
+  pub full : fullMarked lim u ms ≡ true
+  pub agrees : agreeMarked lim n u ms ≡ true
 
 -- the counts m of a file are the counts n that were given
 pub record SameFile (n m : Counts) : Type 0 where

@@ -1,5 +1,5 @@
 -- Demand 3, in the service's own words, of states and of calls: "Take one accepted clause file, any starting values and any list of up to
--- 65,536 flips of known terms." Assumes nothing.
+-- 65,536 flips of known terms.", which document 02 makes "known and free terms". Assumes nothing.
 use Prim.Native.Nat.{ℕ, _-_, _%_, _≤_, _<_}
 use mathlib.Core.Path.{_≡_}
 use mathlib.Core.Bool.{true, false}
@@ -12,8 +12,9 @@ use Rattle.written.specs.Lists.{all, listOf, has, times}
 use Rattle.written.specs.Limits.{Limits}
 use Rattle.written.specs.Clauses.{State, trueCount, breakCount, uncoveredIn, afresh}
 use Rattle.written.specs.Flips.{flipped}
-use Rattle.written.specs.Tables.{Tables, areFull}
-use Rattle.written.specs.Agreement.{stateIn, agree}
+use Rattle.written.specs.Tables.{Tables}
+use Rattle.written.specs.Agreement.{stateIn}
+use Rattle.written.specs.Marks.{isFree, fullMarked, agreeMarked}
 use Rattle.written.specs.Outcomes.{flipsOf}
 use Rattle.laws.specs.Calls.{Stands, SameFile}
 
@@ -36,14 +37,15 @@ pub record AfterFlips (ts : List ℕ) (s : State) : Type 0 where
   -- "So two lists that name each term equally often, in any order, leave the same"
   pub any-order : (us : List ℕ) → ((t : ℕ) → times t ts ≡ times t us) → SameButOrder (flipped ts s) (flipped us s)
 
--- ---- of calls: `flipsOf lim ts n t` is what the flip list ts answers and leaves, with counts n and lent tables t
+-- ---- of calls: `flipsOf lim ts n t ms` is what the flip list ts answers and leaves, with counts n, lent tables t and marks ms
 
--- what is asked of a call: full tables that agree with the counts, and a list within its limit of flips of known terms
-pub record Acceptable (lim : Limits) (ts : List ℕ) (n : Counts) (t : Tables) : Type 0 where
-  pub full : areFull lim t ≡ true
+-- what is asked of a call: full tables that agree with the counts, and a list within its limit of flips of "known and free terms"
+pub record Acceptable (lim : Limits) (ts : List ℕ) (n : Counts) (t : Tables) (ms : List ℕ) : Type 0 where
+  pub full : fullMarked lim t ms ≡ true
   pub short : length ts ≤ lim .list
-  pub agrees : agree lim n t ≡ true
+  pub agrees : agreeMarked lim n t ms ≡ true
   pub known : all (λ v. ltb v (n .terms)) ts ≡ true
+  pub free : all (isFree ms) ts ≡ true
 
 -- "only the order within the uncovered list, and the places noted for it, may differ", where k clauses are uncovered
 pub record SameButList (k : ℕ) (a b : Tables) : Type 0 where
@@ -70,15 +72,15 @@ pub record WorkedOut (n m : Counts) (s : State) (u : Tables) : Type 0 where
   pub listed : (c : ℕ) → times c (take (m .uncovered) (u .uncovered)) ≡ times c (uncoveredIn (s .values) (s .file .clauses))
 
 -- what a call has done that answered with counts m: "Flip lists are applied whole"
-pub record Accepted (lim : Limits) (ts : List ℕ) (n m : Counts) (t : Tables) : Type 0 where
+pub record Accepted (lim : Limits) (ts : List ℕ) (n m : Counts) (t : Tables) (ms : List ℕ) : Type 0 where
   -- the tables hold the state after the flips, and agree with the counts
-  pub stands : Stands lim (flipped ts (stateIn n t)) t m (flipsOf lim ts n t .tables)
+  pub stands : Stands lim (flipped ts (stateIn n t)) t m (flipsOf lim ts n t ms .tables) ms
   -- its counts and its uncovered list, as they stand in the tables
-  pub worked-out : WorkedOut n m (flipped ts (stateIn n t)) (flipsOf lim ts n t .tables)
+  pub worked-out : WorkedOut n m (flipped ts (stateIn n t)) (flipsOf lim ts n t ms .tables)
   -- that state is the one demanded
   pub after : AfterFlips ts (stateIn n t)
   -- the file's counts are those given
   pub counts : SameFile n m
   -- "two lists that name each term equally often, in any order, leave the same": the other is accepted too, with the same counts
   pub any-order : (us : List ℕ) → ((v : ℕ) → times v ts ≡ times v us)
-      → (flipsOf lim us n t .answer ≡ F.Applied m) × SameButList (m .uncovered) (flipsOf lim ts n t .tables) (flipsOf lim us n t .tables)
+      → (flipsOf lim us n t ms .answer ≡ F.Applied m) × SameButList (m .uncovered) (flipsOf lim ts n t ms .tables) (flipsOf lim us n t ms .tables)

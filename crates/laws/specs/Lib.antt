@@ -6,6 +6,7 @@ pub mod Demands
 pub mod ReadCalls
 pub mod FlipCalls
 pub mod Joined
+pub mod PinCalls
 pub mod WalkCalls
 pub mod Sheets
 pub mod RunCalls

@@ -1,7 +1,7 @@
 -- The reasons told apart by what gives them: a new reason takes its place in each test by its name, whatever its number. Assumes nothing.
 use mathlib.Core.Bool.{Bool, true, false}
 use Rattle.written.specs.declared.Reason.{Reason}
-use Rattle.written.specs.declared.Reason.the-variants.{TableTooShort, TextTooLong, TextCut, ByteNotAllowed, NinthByte, TooManyTerms, TooManyLiterals, TooManyClauses, NoClause, SheetForm, OutOfRange, TablesDisagree, UnknownTerm, ListTooLong, BlankLine}
+use Rattle.written.specs.declared.Reason.the-variants.{TableTooShort, TextTooLong, TextCut, ByteNotAllowed, NinthByte, TooManyTerms, TooManyLiterals, TooManyClauses, NoClause, SheetForm, OutOfRange, TablesDisagree, UnknownTerm, ListTooLong, BlankLine, PinnedTerm}
 
 -- "The line is that of the fault for 4 to 8 [..], else 0", and for 15 "with its line": a line of the text
 abbrev pub namesLine : Reason → Bool
@@ -20,6 +20,7 @@ namesLine TablesDisagree = false
 namesLine UnknownTerm = false
 namesLine ListTooLong = false
 namesLine BlankLine = true
+namesLine PinnedTerm = false
 
 -- a text's own, read under its limit: 3, "then the text from the left", then 9
 abbrev pub ofText : Reason → Bool
@@ -38,6 +39,7 @@ ofText TablesDisagree = false
 ofText UnknownTerm = false
 ofText ListTooLong = false
 ofText BlankLine = true
+ofText PinnedTerm = false
 
 -- the order sheet's: 10 and 11
 abbrev pub ofSheet : Reason → Bool
@@ -56,3 +58,4 @@ ofSheet TablesDisagree = false
 ofSheet UnknownTerm = false
 ofSheet ListTooLong = false
 ofSheet BlankLine = false
+ofSheet PinnedTerm = false

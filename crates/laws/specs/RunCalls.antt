@@ -26,9 +26,10 @@ use Rattle.written.specs.Reading.{accepted, refused, readText}
 use Rattle.written.specs.Walk.{Outcome, walkOver}
 use Rattle.written.specs.Orders.{inRange}
 use Rattle.written.specs.Sheet.{sheetOf}
-use Rattle.written.specs.Tables.{Tables, each, fullSizes, areFull, cleared, countsOf}
+use Rattle.written.specs.Tables.{Tables, each, fullSizes, cleared, countsOf}
+use Rattle.written.specs.Marks.{fullMarked}
 use Rattle.written.specs.Printed.{decimal, line, answer, chosen, refusal}
-use Rattle.written.specs.Program.{unbegun, unread, walked, courseOf, printed, tablesAfter, Ran, reported}
+use Rattle.written.specs.Program.{unbegun, unread, walked, courseOf, printed, tablesAfter, marksAfter, Ran, reported}
 use Rattle.laws.specs.Valid.{Valid}
 use Rattle.laws.specs.Calls.{OneOfThree}
 use Rattle.laws.specs.Reasons.{namesLine, ofText, ofSheet}
@@ -36,18 +37,20 @@ use Rattle.laws.specs.Sheets.{lastLine}
 
 -- ---- what a run leaves: r, of tables and a buffer of their full sizes
 
-pub record Told (lim : Limits) (input : List ℕ) (t : Tables) (b : List ℕ) (r : Ran) : Type 0 where
+pub record Told (lim : Limits) (input : List ℕ) (t : Tables) (ms b : List ℕ) (r : Ran) : Type 0 where
   -- what is printed goes by the input alone, whatever stood in the tables and the buffer; it stands first in the buffer
   pub answer : r .answer ≡ reported (length (printed lim input))
   pub first : take (r .answer .length) (r .buffer) ≡ printed lim input
   -- the rest of the buffer is as it was
   pub rest : drop (r .answer .length) (r .buffer) ≡ drop (r .answer .length) b
   pub as-long : length (r .buffer) ≡ length b
-  -- the tables go by how the run went
+  -- the tables and the marks go by how the run went
   pub tables : r .tables ≡ tablesAfter lim t (courseOf lim input)
-  pub full : areFull lim (r .tables) ≡ true
+  pub marks : r .marks ≡ marksAfter lim ms (courseOf lim input)
+  pub full : fullMarked lim (r .tables) (r .marks) ≡ true
   -- "A lent table may be longer than its full size; the excess is never read or written."
   pub beyond : each drop (fullSizes lim) (r .tables) ≡ each drop (fullSizes lim) t
+  pub marks-beyond : drop (lim .terms) (r .marks) ≡ drop (lim .terms) ms
 
 -- ---- "The result line decides."
 
@@ -122,7 +125,7 @@ pub record Walks (lim : Limits) (input : List ℕ) (e : Outcome) : Type 0 where
   pub begun : Begun lim input sheet
   pub range : inRange (sheet .order) ≡ true
   pub read : readText lim (textAfter sheet input) ≡ accepted (e .last .state .file)
-  pub made : e ≡ walkOver (sheet .order) (e .last .state .file)
+  pub made : e ≡ walkOver (sheet .order) [] (e .last .state .file)
   -- a proper file, a value of 0 or 1 for each term, and the uncovered listed
   pub valid : Valid lim (e .last .state)
 
