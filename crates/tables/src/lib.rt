@@ -5,6 +5,7 @@ ghost use Rattle.written.specs.Lists.{total};
 ghost use Rattle.written.specs.Limits.{narrow};
 ghost use Rattle.written.specs.Tables.{areFull};
 ghost use Rattle.written.specs.Lending.{lentBefore};
+ghost use Rattle.written.specs.Marks.{fullMarked};
 ghost use Rattle.written.specs.Agreement.{partOf};
 ghost use Rattle.machine.specs.Literals.{valueIn, termIf, xorTrue};
 ghost use Rattle.machine.specs.Moving.{CanPart};
@@ -14,7 +15,7 @@ ghost use Rattle.machine.specs.Uncovered.{uncovered, enters, CanEnter};
 
 // ---- full sizes
 
-// No lent table is shorter than its full size (reason 1).
+// None of the ten lent tables is shorter than its full size (reason 1).
 pub fn are_full(
     names: &[u64],
     values: &[u32],
@@ -57,6 +58,40 @@ pub fn are_full(
         return false;
     }
     places.len() >= 8192
+}
+
+// With the marks of terms, which are lent beside the ten.
+pub fn all_full(
+    names: &[u64],
+    values: &[u32],
+    starts: &[u16],
+    literals: &[u16],
+    occurrence_starts: &[u16],
+    occurrences: &[u16],
+    trues: &[u16],
+    breaks: &[u16],
+    uncovered: &[u16],
+    places: &[u16],
+    marks: &[u8],
+) -> bool
+    ensures { λ r. ⌜ r ≡ fullMarked narrow (lentBefore names values starts literals «occurrence_starts» occurrences trues breaks uncovered places)
+        (now (marks .entry)) ⌝ }
+{
+    if are_full(
+        names,
+        values,
+        starts,
+        literals,
+        occurrence_starts,
+        occurrences,
+        trues,
+        breaks,
+        uncovered,
+        places,
+    ) {
+        return marks.len() >= 2048;
+    }
+    false
 }
 
 // ---- reading a clause
@@ -176,6 +211,18 @@ pub fn clear_names(names: &mut [u64], n: usize)
     let mut i = 0;
     while i < last {
         names[i] = 0;
+        i += 1;
+    }
+}
+
+// The same for a table of bytes.
+pub fn clear_bytes(bytes: &mut [u8], n: usize)
+    ensures { λ _. ⌜ now (bytes .exit) ≡ zeroed n (now (bytes .entry)) ⌝ }
+{
+    let last = words::least(n, bytes.len());
+    let mut i = 0;
+    while i < last {
+        bytes[i] = 0;
         i += 1;
     }
 }

@@ -1,8 +1,10 @@
 -- The values of the terms lie in words of 32 bits, 32 terms to a word, low bit first. Assumes nothing.
+use mathlib.Core.Bool.{cond}
 use mathlib.Core.List.{List}
 use Prim.Native.Nat.{ℕ, zero, suc, _+_, _-_, _*_, _/_, _%_, _^_, min}
 use lib.ListN.{getD, set}
 use lib.Bits.{bitXor}
+use lib.Dec.{eqb}
 use Rattle.draw.specs.Xorshift.{nextOf}
 
 -- digit j of the number w, counted from the lowest
@@ -16,6 +18,10 @@ bitAt ws t = bitOf (getD ws (t / 32) 0) (t % 32)
 -- the words with the value of the term t turned
 unfoldable pub turnAt : List ℕ → ℕ → List ℕ
 turnAt ws t = set ws (t / 32) (bitXor (getD ws (t / 32) 0) (2 ^ (t % 32)))
+
+-- the words with the value of the term t as its mark m has it: 0 leaves it, 1 puts 0, any other 1
+unfoldable pub holdAt : List ℕ → ℕ → ℕ → List ℕ
+holdAt ws t m = cond (eqb m 0) ws (cond (eqb (bitAt ws t) (cond (eqb m 1) 0 1)) ws (turnAt ws t))
 
 -- the drawn word, of which the k lowest digits are kept
 unfoldable pub keepLow : ℕ → ℕ → ℕ

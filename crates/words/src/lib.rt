@@ -1,7 +1,9 @@
 // The value words: 32 terms to a word, low bit first. Every index is allowed: past the words a value is 0, and nothing is written.
 ghost use mathlib.Core.Path.{_≡_};
+ghost use mathlib.Core.Bool.{cond};
 ghost use Prim.Native.Nat.{_-_, _*_, min};
-ghost use Rattle.words.specs.Words.{bitAt, turnAt, keepLow, putAt, trues, filled, stateAfter, wordCount};
+ghost use lib.Dec.{eqb};
+ghost use Rattle.words.specs.Words.{bitAt, turnAt, holdAt, keepLow, putAt, trues, filled, stateAfter, wordCount};
 use draw::Generator;
 
 // The value of the term t.
@@ -23,6 +25,29 @@ pub fn turn(words: &mut [u32], t: usize)
     if k < words.len() {
         words[k] = words[k] ^ (1 << (t % 32));
     }
+}
+
+// The value that a mark other than 0 gives.
+fn pinned(mark: u8) -> u32
+    ensures { λ r. ⌜ r ≡ cond (eqb mark 1) 0 1 ⌝ }
+{
+    if mark == 1 {
+        return 0;
+    }
+    1
+}
+
+// Gives the term t the value of its mark: 0 leaves it, 1 puts 0, any other 1.
+pub fn hold(words: &mut [u32], t: usize, mark: u8)
+    ensures { λ _. ⌜ now (words .exit) ≡ holdAt (now (words .entry)) t mark ⌝ }
+{
+    if mark == 0 {
+        return;
+    }
+    if value(words, t) == pinned(mark) {
+        return;
+    }
+    turn(words, t);
 }
 
 // The bits of w that belong to the terms of word k, of n terms.
