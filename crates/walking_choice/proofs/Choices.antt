@@ -13,14 +13,14 @@ use Rattle.written.specs.Walk.{oneOf, afterHeads}
 use Rattle.laws.proofs.Modes.{choice-below}
 use Rattle.walking_choice.specs.Choosing.{pick, leastBy, tiesBy, literalBy}
 
--- the entry that a choice gives stands in the list, and is the one that is written
-module _ (o : Order) (xs : List ℕ) (y : ℕ) {d : Drawn} (e : d ≡ choice o (length xs) y) where
+-- the entry that a choice among as many gives stands in the list, and is the one that is written
+module _ (o : Order) (xs : List ℕ) (y : ℕ) {n : ℕ} (many : n ≡ length xs) {d : Drawn} (e : d ≡ choice o n y) where
   pub chosen-stands : 0 < length xs → d .number < length xs
-  chosen-stands s = rw e (choice-below o (length xs) y s)
+  chosen-stands s = rw (e, many) (choice-below o (length xs) y s)
 
-  pub chosen-is : entryAt xs d ≡ chosenFrom o xs y
+  pub chosen-is : {x : ℕ} → x ≡ getD xs (d .number) 0 → pick x (d .next .state) ≡ chosenFrom o xs y
   unfolding chosenFrom
-  chosen-is = ap (entryAt xs) e
+  chosen-is p = rw p (ap (entryAt xs) (rw many at e))
 
 -- "one is taken without a draw, several by a choice"
 pub one-alone : (o : Order) (xs : List ℕ) (y : ℕ) → length xs ≡ 1 → pick (getD xs 0 0) y ≡ oneOf o xs y

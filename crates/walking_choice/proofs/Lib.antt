@@ -1,4 +1,5 @@
 -- The functions' proofs stand beside their names.
-pub mod Choices
+pub mod Among
 pub mod LeastBreaks
+pub mod Choices
 pub mod Ties

@@ -2,12 +2,14 @@
 use native.Mathlib.Omega.{arith}
 use borrow.Author.Needs.{needs}
 use Rattle.walking_choice.proofs.LeastBreaks.{number-few}
-use Rattle.walking_choice.proofs.Ties.{one-taken, drawn-stands, one-drawn}
+use Rattle.walking_choice.proofs.Ties.{free-short, one-taken, drawn-stands, one-drawn}
 use Rattle.walking_choice.proofs.one_at.Statement.{statement}
 use Rattle.walking_choice.proofs.one_at.Tie as tie
 
 cast-choice : tie.Need-cast-choice
-cast-choice c = let p = c .before .before .before .before .before .pre in omega (arith, number-few _ _ (p .1), p .0 .draw .short)
+cast-choice c =
+    let s = c .before .before .before .before .before .before in
+    omega (arith, number-few _ _ _ (s .pre .1), free-short (s .args .marks .now) (s .args .clause .now), s .pre .0 .short)
 
 pub one-at-spec : {M : Type 1} → statement M
 one-at-spec =
