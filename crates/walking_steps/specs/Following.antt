@@ -1,7 +1,8 @@
 -- What it means that tables on which a walk stands hold a written moment, and that a walk can go on from there. Assumes nothing.
-use Prim.Native.Nat.{ℕ, _+_, _<_}
+use Prim.Native.Nat.{ℕ, _+_, _≤_, _<_}
 use mathlib.Core.Path.{_≡_}
-use mathlib.Core.List.{[]}
+use mathlib.Core.Bool.{Bool, false}
+use mathlib.Core.List.{List, []}
 use lib.ListN.{length, getD}
 use Rattle.written.specs.Lists.{padded}
 use Rattle.written.specs.Clauses.{State, valueOf}
@@ -33,8 +34,8 @@ pub record Follows (ρ : State → ℕ → ℕ) (top full : ℕ) (x : Fixed) (ba
   pub generator : v .generator ≡ m .generator
   pub flips : v .flips ≡ m .flips
 
--- there is a moment that the tables hold: a walk over T terms and C clauses can start
-pub record CanBegin (top T C : ℕ) (x : Fixed) (v : Stand) : Type 0 where
+-- there is a moment that the tables hold: a walk over T terms and C clauses can start, under the marks ms
+pub record CanBegin (top T C : ℕ) (ms : List ℕ) (x : Fixed) (v : Stand) : Type 0 where
   pub place : State → ℕ → ℕ
   pub full : ℕ
   pub base : Moving
@@ -42,11 +43,14 @@ pub record CanBegin (top T C : ℕ) (x : Fixed) (v : Stand) : Type 0 where
   pub follows : Follows place top full x base moment v
   pub terms : length (moment .state .file .names) ≡ T
   pub clauses : length (moment .state .file .clauses) ≡ C
+  pub marks : T ≤ length ms
 
--- and a walk can go on for k steps more, whose flips are counted below most
-pub record CanGo (top k most : ℕ) (x : Fixed) (v : Stand) : Type 0 where
+-- and a walk can go on for k steps more, whose flips are counted below most; where `pinned` is false, no term is pinned
+pub record CanGo (top k most : ℕ) (pinned : Bool) (ms : List ℕ) (x : Fixed) (v : Stand) : Type 0 where
   pub full : ℕ
   pub base : Moving
   pub moment : Moment
   pub follows : Follows walking top full x base moment v
   pub few : v .flips + k < most
+  pub marks : length (moment .state .values) ≤ length ms
+  pub plain : pinned ≡ false → (t : ℕ) → t < length (moment .state .values) → getD ms t 0 ≡ 0
