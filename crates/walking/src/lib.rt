@@ -1,6 +1,8 @@
 // Walks on tables that have been tested: found or given up.
 // A function that another crate of the library calls may ask something of its tables, by one record, which its caller proves; none is exported.
 ghost use mathlib.Core.Path.{_≡_};
+ghost use mathlib.Core.Bool.{false, cond};
+ghost use lib.Dec.{ltb};
 ghost use Prim.Native.Nat.{_^_};
 ghost use Rattle.written.specs.Limits.{narrow};
 ghost use Rattle.written.specs.Lending.{lentAt, lentBefore, lentAfter};
@@ -24,6 +26,16 @@ struct Ended {
     at: At,
 }
 
+// Whether another walk is to begin. One test for both ways to end: with a second way out of the loop the compiled choice of a clause is no longer inlined.
+fn goes_on(found: bool, begun: u32, walks: u32) -> bool
+    ensures { λ r. ⌜ r ≡ cond found false (ltb begun walks) ⌝ }
+{
+    if found {
+        return false;
+    }
+    begun < walks
+}
+
 // Walks one after the other, until one has found or all are over. The generator goes on from one to the next.
 fn all_walks(
     order: Order,
@@ -37,18 +49,20 @@ fn all_walks(
     breaks: &mut [u16],
     list: &mut [u16],
     places: &mut [u16],
+    marks: &[u8],
     from: At,
 ) -> Ended
-    requires { ⌜ CanWalks 65536 (2 ^ 32) (n .terms) (n .clauses) (order .walks) order
+    requires { ⌜ CanWalks 65536 (2 ^ 32) (n .terms) (n .clauses) (order .walks) order (now marks)
         (fixedAt starts literals «occurrence_starts» occurrences)
         (standAt values trues breaks list places from) ⌝ }
     ensures { λ r. ⌜ end (r .found) (r .walks) (standAfter values trues breaks list places (r .at))
-        ≡ walksIn order (n .terms) (n .clauses) (fixedBefore starts literals «occurrence_starts» occurrences) (order .walks) 0
+        ≡ walksIn order (now (marks .entry)) (n .terms) (n .clauses) (fixedBefore starts literals «occurrence_starts» occurrences) (order .walks) 0
         (standBefore values trues breaks list places from) ⌝ }
 {
     let mut at = from;
     let mut begun: u32 = 0;
-    while begun < order.walks {
+    let mut found = false;
+    while goes_on(found, begun, order.walks) {
         at = walking_steps::one_walk(
             order,
             n,
@@ -61,19 +75,14 @@ fn all_walks(
             breaks,
             list,
             places,
+            marks,
             at,
         );
         begun += 1;
-        if at.number == 0 {
-            return Ended {
-                found: true,
-                walks: begun,
-                at: at,
-            };
-        }
+        found = at.number == 0;
     }
     Ended {
-        found: false,
+        found: found,
         walks: begun,
         at: at,
     }
@@ -93,10 +102,12 @@ pub fn walk_tested(
     breaks: &mut [u16],
     uncovered: &mut [u16],
     places: &mut [u16],
+    marks: &[u8],
 ) -> Walked
-    requires { ⌜ Allowed narrow order n (lentAt names values starts literals «occurrence_starts» occurrences trues breaks uncovered places) ⌝ }
-    ensures { λ r. ⌜ leaves r (lentAfter names values starts literals «occurrence_starts» occurrences trues breaks uncovered places)
-        ≡ walkMade narrow order n (lentBefore names values starts literals «occurrence_starts» occurrences trues breaks uncovered places) ⌝ }
+    requires { ⌜ Allowed narrow order n (lentAt names values starts literals «occurrence_starts» occurrences trues breaks uncovered places) (now marks) ⌝ }
+    ensures { λ r. ⌜ leaves r (lentAfter names values starts literals «occurrence_starts» occurrences trues breaks uncovered places) (now (marks .exit))
+        ≡ walkMade narrow order n (lentBefore names values starts literals «occurrence_starts» occurrences trues breaks uncovered places)
+        (now (marks .entry)) ⌝ }
 {
     let e = all_walks(
         order,
@@ -110,6 +121,7 @@ pub fn walk_tested(
         breaks,
         uncovered,
         places,
+        marks,
         At {
             number: n.uncovered as usize,
             generator: Generator::new(order.seed),

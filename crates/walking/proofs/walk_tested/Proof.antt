@@ -9,29 +9,29 @@ use Rattle.walking.proofs.walk_tested.Statement.{statement}
 use Rattle.walking.proofs.walk_tested.Tie as tie
 
 all-walks-requires : tie.Need-all-walks-requires
-all-walks-requires c κs = can-walk narrow _ _ _ (c .before .before .before .before .before .before .before .before .before .before .before .before .before .before .before .before .before .pre) (c .new .ensures) 65536 (omega arith) (omega arith) (omega arith) (2 ^ 32) (omega arith)
+all-walks-requires c κs = can-walk narrow _ _ _ _ (c .before .before .before .before .before .before .before .before .before .before .before .before .before .before .before .before .before .before .pre) (c .new .ensures) 65536 (omega arith) (omega arith) (omega arith) (2 ^ 32) (omega arith)
 
 close-all-requires : tie.Need-close-all-requires
 close-all-requires c κs =
     let e = c .before .before .before .before .before .before .before .before .before .before .before .before .before in
-    can-close narrow _ _ _ (e .before .before .before .before .before .before .before .before .before .before .before .before .before .before .before .before .before .before .pre) (e .before .new .ensures) 65536 (omega arith) (omega arith) (omega arith) (e .all-walks .ensures)
+    can-close narrow _ _ _ _ (e .before .before .before .before .before .before .before .before .before .before .before .before .before .before .before .before .before .before .before .pre) (e .before .new .ensures) 65536 (omega arith) (omega arith) (omega arith) (e .all-walks .ensures)
 
 cast-number : tie.Need-cast-number
 cast-number c =
     let e = c .before .before .before .before .before .before .before .before .before .before .before .before .before .before .before .before .before .before in
-    omega (arith, number-low narrow _ _ _ (e .before .before .before .before .before .before .before .before .before .before .before .before .before .before .before .before .before .before .pre) (e .before .new .ensures) 65536 (omega arith) (omega arith) (omega arith) (e .all-walks .ensures))
+    omega (arith, number-low narrow _ _ _ _ (e .before .before .before .before .before .before .before .before .before .before .before .before .before .before .before .before .before .before .before .pre) (e .before .new .ensures) 65536 (omega arith) (omega arith) (omega arith) (e .all-walks .ensures))
 
 returns : tie.Need-returns
 returns c =
     let e = c .before .before .before .before .before .before .before .before .before .before .before .before .before .before .before .before .before .before .before in
-    let p = e .before .before .before .before .before .before .before .before .before .before .before .before .before .before .before .before .before .before .pre in
-    has-found narrow _ _ _ p (e .before .new .ensures) 65536 (omega arith) (omega arith) (omega arith) (e .all-walks .ensures) (c .before .before .before .before .before .close-all .ensures) (c .if1 .taken)
+    let p = e .before .before .before .before .before .before .before .before .before .before .before .before .before .before .before .before .before .before .before .pre in
+    has-found narrow _ _ _ _ p (e .before .new .ensures) 65536 (omega arith) (omega arith) (omega arith) (e .all-walks .ensures) (c .before .before .before .before .before .close-all .ensures) (c .if1 .taken)
 
 returns-2 : tie.Need-returns-2
 returns-2 c =
     let e = c .before .before .before .before .before .before .before .before .before .before .before .before .before .before .before .before .before .before .before in
-    let p = e .before .before .before .before .before .before .before .before .before .before .before .before .before .before .before .before .before .before .pre in
-    has-given-up narrow _ _ _ p (e .before .new .ensures) 65536 (omega arith) (omega arith) (omega arith) (e .all-walks .ensures) (c .before .before .before .before .before .close-all .ensures) (c .if1 .left)
+    let p = e .before .before .before .before .before .before .before .before .before .before .before .before .before .before .before .before .before .before .before .pre in
+    has-given-up narrow _ _ _ _ p (e .before .new .ensures) 65536 (omega arith) (omega arith) (omega arith) (e .all-walks .ensures) (c .before .before .before .before .before .close-all .ensures) (c .if1 .left)
 
 pub walk-tested-spec : {M : Type 1} → statement M
 walk-tested-spec =
