@@ -1,0 +1,2 @@
+-- How one term is tested.
+pub mod Tests
