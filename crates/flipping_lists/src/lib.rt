@@ -1,13 +1,18 @@
-// Flip lists: applied whole or refused whole.
+// Flip lists: applied whole or refused whole; and the flips of a list on tables that are known to agree.
 ghost use mathlib.Core.Path.{_≡_};
+ghost use mathlib.Core.List.{[]};
 ghost use lib.Dec.{ltb};
+ghost use Rattle.written.specs.declared.Flipped.the-variants.{Applied};
 ghost use Rattle.written.specs.Lists.{all};
 ghost use Rattle.written.specs.Limits.{narrow};
-ghost use Rattle.written.specs.Lending.{lentBefore, lentAfter};
-ghost use Rattle.written.specs.Outcomes.{leaves, flipsOf};
+ghost use Rattle.written.specs.Lending.{lentAt, lentBefore, lentAfter};
+ghost use Rattle.written.specs.Agreement.{stateIn};
+ghost use Rattle.written.specs.Marks.{isFree};
+ghost use Rattle.written.specs.Flips.{flipped};
+ghost use Rattle.written.specs.Outcomes.{leaves, ten, tenOf, flipsLeave, flipsOf};
 ghost use Rattle.machine.specs.Moving.{fixedAt, fixedBefore, movingAt, movingBefore, movingAfter};
 ghost use Rattle.machine.specs.Passes.{applied, CanApply};
-ghost use Rattle.flipping_lists.specs.Tests.{testsOf};
+ghost use Rattle.flipping_lists.specs.Tests.{testsOf, termsTested, CanFlipList};
 use written::Counts;
 use written::Flipped;
 use written::Reason;
@@ -28,7 +33,44 @@ fn known(list: &[u16], terms: u32) -> bool
     true
 }
 
-// The tests, in their order: 1, 14, 12, 13. The whole list is looked at before any flip.
+// The term t has no mark; past the marks none has one.
+fn is_free(marks: &[u8], t: usize) -> bool
+    ensures { λ r. ⌜ r ≡ isFree (now (marks .entry)) t ⌝ }
+{
+    if t < marks.len() {
+        return marks[t] == 0;
+    }
+    true
+}
+
+// The whole list names free terms.
+fn free(list: &[u16], marks: &[u8]) -> bool
+    ensures { λ r. ⌜ r ≡ all (isFree (now (marks .entry))) (now (list .entry)) ⌝ }
+{
+    let mut i = 0;
+    while i < list.len() {
+        if !is_free(marks, list[i] as usize) {
+            return false;
+        }
+        i += 1;
+    }
+    true
+}
+
+// The tests of the list's terms, in their order: 13, then 20. The whole list is looked at before any flip.
+fn terms_verdict(list: &[u16], terms: u32, marks: &[u8]) -> Tested
+    ensures { λ r. ⌜ r ≡ termsTested terms (now (marks .entry)) (now (list .entry)) ⌝ }
+{
+    if !known(list, terms) {
+        return Tested::Failed(Reason::UnknownTerm);
+    }
+    if !free(list, marks) {
+        return Tested::Failed(Reason::PinnedTerm);
+    }
+    Tested::Passed
+}
+
+// The tests, in their order: 1, 14, 12, then those of the list's terms.
 fn verdict(
     list: &[u16],
     n: Counts,
@@ -42,11 +84,12 @@ fn verdict(
     breaks: &[u16],
     uncovered: &[u16],
     places: &[u16],
+    marks: &[u8],
 ) -> Tested
     ensures { λ r. ⌜ r ≡ testsOf narrow (now (list .entry)) n
-        (lentBefore names values starts literals «occurrence_starts» occurrences trues breaks uncovered places) ⌝ }
+        (lentBefore names values starts literals «occurrence_starts» occurrences trues breaks uncovered places) (now (marks .entry)) ⌝ }
 {
-    if !tables::are_full(
+    if !tables::all_full(
         names,
         values,
         starts,
@@ -57,13 +100,14 @@ fn verdict(
         breaks,
         uncovered,
         places,
+        marks,
     ) {
         return Tested::Failed(Reason::TableTooShort);
     }
     if list.len() > 65536 {
         return Tested::Failed(Reason::ListTooLong);
     }
-    if !agreeing::agrees(
+    if !marked::agrees(
         n,
         names,
         values,
@@ -75,13 +119,11 @@ fn verdict(
         breaks,
         uncovered,
         places,
+        marks,
     ) {
         return Tested::Failed(Reason::TablesDisagree);
     }
-    if !known(list, n.terms) {
-        return Tested::Failed(Reason::UnknownTerm);
-    }
-    Tested::Passed
+    terms_verdict(list, n.terms, marks)
 }
 
 // The flips of a list on tables that agree: the places are made those for walking, and those of written tables again. Gives the number of
@@ -134,8 +176,8 @@ fn recounted(n: Counts, number: u32) -> Counts
     }
 }
 
-// The terms of the list flipped, in order, or a refusal that changes nothing.
-pub fn apply(
+// The terms of the list flipped, in order, on tables that agree. Gives the counts that then stand.
+pub fn flip_agreeing(
     list: &[u16],
     n: Counts,
     names: &[u64],
@@ -148,32 +190,12 @@ pub fn apply(
     breaks: &mut [u16],
     uncovered: &mut [u16],
     places: &mut [u16],
-) -> Flipped
-    ensures { λ r. ⌜ leaves r (lentAfter names values starts literals «occurrence_starts» occurrences trues breaks uncovered places)
-        ≡ flipsOf narrow (now (list .entry)) n (lentBefore names values starts literals «occurrence_starts» occurrences trues breaks uncovered places) ⌝ }
+) -> Counts
+    requires { ⌜ CanFlipList narrow (now list) n (lentAt names values starts literals «occurrence_starts» occurrences trues breaks uncovered places) ⌝ }
+    ensures { λ r. ⌜ ten (Applied r) (lentAfter names values starts literals «occurrence_starts» occurrences trues breaks uncovered places)
+        ≡ tenOf (flipsLeave narrow (lentBefore names values starts literals «occurrence_starts» occurrences trues breaks uncovered places) []
+        (flipped (now (list .entry)) (stateIn n (lentBefore names values starts literals «occurrence_starts» occurrences trues breaks uncovered places)))) ⌝ }
 {
-    match verdict(
-        list,
-        n,
-        names,
-        values,
-        starts,
-        literals,
-        occurrence_starts,
-        occurrences,
-        trues,
-        breaks,
-        uncovered,
-        places,
-    ) {
-        Tested::Failed(reason) => {
-            return Flipped::Refused(Refusal {
-                reason: reason,
-                counts: n,
-            });
-        }
-        Tested::Passed => {}
-    }
     let number = flip_list(
         n.clauses as usize,
         list,
@@ -188,5 +210,64 @@ pub fn apply(
         places,
         n.uncovered as usize,
     );
-    Flipped::Applied(recounted(n, number as u32))
+    recounted(n, number as u32)
+}
+
+// The terms of the list flipped, in order, or a refusal that changes nothing.
+pub fn apply(
+    list: &[u16],
+    n: Counts,
+    names: &[u64],
+    values: &mut [u32],
+    starts: &[u16],
+    literals: &[u16],
+    occurrence_starts: &[u16],
+    occurrences: &[u16],
+    trues: &mut [u16],
+    breaks: &mut [u16],
+    uncovered: &mut [u16],
+    places: &mut [u16],
+    marks: &[u8],
+) -> Flipped
+    ensures { λ r. ⌜ leaves r (lentAfter names values starts literals «occurrence_starts» occurrences trues breaks uncovered places) (now (marks .exit))
+        ≡ flipsOf narrow (now (list .entry)) n (lentBefore names values starts literals «occurrence_starts» occurrences trues breaks uncovered places)
+        (now (marks .entry)) ⌝ }
+{
+    match verdict(
+        list,
+        n,
+        names,
+        values,
+        starts,
+        literals,
+        occurrence_starts,
+        occurrences,
+        trues,
+        breaks,
+        uncovered,
+        places,
+        marks,
+    ) {
+        Tested::Failed(reason) => {
+            return Flipped::Refused(Refusal {
+                reason: reason,
+                counts: n,
+            });
+        }
+        Tested::Passed => {}
+    }
+    Flipped::Applied(flip_agreeing(
+        list,
+        n,
+        names,
+        values,
+        starts,
+        literals,
+        occurrence_starts,
+        occurrences,
+        trues,
+        breaks,
+        uncovered,
+        places,
+    ))
 }

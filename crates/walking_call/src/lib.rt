@@ -48,10 +48,12 @@ fn verdict(
     breaks: &[u16],
     uncovered: &[u16],
     places: &[u16],
+    marks: &[u8],
 ) -> Tested
-    ensures { λ r. ⌜ r ≡ testsOf narrow order n (lentBefore names values starts literals «occurrence_starts» occurrences trues breaks uncovered places) ⌝ }
+    ensures { λ r. ⌜ r ≡ testsOf narrow order n (lentBefore names values starts literals «occurrence_starts» occurrences trues breaks uncovered places)
+        (now (marks .entry)) ⌝ }
 {
-    if !tables::are_full(
+    if !tables::all_full(
         names,
         values,
         starts,
@@ -62,13 +64,14 @@ fn verdict(
         breaks,
         uncovered,
         places,
+        marks,
     ) {
         return Tested::Failed(Reason::TableTooShort);
     }
     if !in_range(order) {
         return Tested::Failed(Reason::OutOfRange);
     }
-    if !agreeing::agrees(
+    if !marked::agrees(
         n,
         names,
         values,
@@ -80,6 +83,7 @@ fn verdict(
         breaks,
         uncovered,
         places,
+        marks,
     ) {
         return Tested::Failed(Reason::TablesDisagree);
     }
@@ -100,9 +104,11 @@ pub fn walk(
     breaks: &mut [u16],
     uncovered: &mut [u16],
     places: &mut [u16],
+    marks: &[u8],
 ) -> Walked
-    ensures { λ r. ⌜ leaves r (lentAfter names values starts literals «occurrence_starts» occurrences trues breaks uncovered places)
-        ≡ walkOf narrow order n (lentBefore names values starts literals «occurrence_starts» occurrences trues breaks uncovered places) ⌝ }
+    ensures { λ r. ⌜ leaves r (lentAfter names values starts literals «occurrence_starts» occurrences trues breaks uncovered places) (now (marks .exit))
+        ≡ walkOf narrow order n (lentBefore names values starts literals «occurrence_starts» occurrences trues breaks uncovered places)
+        (now (marks .entry)) ⌝ }
 {
     match verdict(
         order,
@@ -117,6 +123,7 @@ pub fn walk(
         breaks,
         uncovered,
         places,
+        marks,
     ) {
         Tested::Failed(reason) => {
             return Walked::Refused(Refusal {
@@ -139,5 +146,6 @@ pub fn walk(
         breaks,
         uncovered,
         places,
+        marks,
     )
 }

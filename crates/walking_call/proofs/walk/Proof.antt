@@ -17,23 +17,23 @@ tables a =
 returns : tie.Need-returns
 returns c =
     let a = c .before .before .before .before .before .before .before .before .before .before .before .before .before .before .before .before .before
-    .before .before .args in
-    was-refused narrow (a .order) (a .n) (tables a)
+    .before .before .before .args in
+    was-refused narrow (a .order) (a .n) (tables a) (a .marks .now)
     (c .before .before .before .verdict .ensures) (c .before .reason .given .1)
 
 walk-tested-requires : tie.Need-walk-tested-requires
 walk-tested-requires c κs =
     let v = c .before .before .before .before .before .before .before in
-    let a = v .before .before .before .before .before .before .before .before .before .before .before .before .before .before .before .before .args in
-    was-allowed narrow (a .order) (a .n) (tables a)
+    let a = v .before .before .before .before .before .before .before .before .before .before .before .before .before .before .before .before .before .args in
+    was-allowed narrow (a .order) (a .n) (tables a) (a .marks .now)
     (v .verdict .ensures) (c .before .before .before .before .before .enum-told .given .1)
 
 returns-2 : tie.Need-returns-2
 returns-2 c =
     let w = c .before .before .before .before .before .before .before .before .before .before in
     let v = w .before .before .before .before .before .before .before .before in
-    let a = v .before .before .before .before .before .before .before .before .before .before .before .before .before .before .before .before .args in
-    was-made narrow (a .order) (a .n) (tables a)
+    let a = v .before .before .before .before .before .before .before .before .before .before .before .before .before .before .before .before .before .args in
+    was-made narrow (a .order) (a .n) (tables a) (a .marks .now)
     (v .verdict .ensures) (w .before .before .before .before .before .before .enum-told .given .1) (w .walk-tested .ensures)
 
 pub walk-spec : {M : Type 1} → statement M
