@@ -1,0 +1,2 @@
+-- What the tests of a pin and of a lift come to.
+pub mod Tests
