@@ -1,7 +1,7 @@
 -- A draft of a text in cleared tables is its file laid in them; where the text is refused, what it used is within the full sizes. Assumes nothing.
 use mathlib.Core.Path.{_≡_, ap, sym, _∙_, subst}
 use mathlib.Core.Bool.{true}
-use mathlib.Core.List.{List}
+use mathlib.Core.List.{List, []}
 use Prim.Native.Nat.{ℕ, _+_, _-_, _*_, _≤_, _<_}
 use native.Mathlib.Omega.{arith}
 use lib.ListN.{length, drop, length-drop}
@@ -14,7 +14,7 @@ use Rattle.written.specs.Limits.{Limits}
 use Rattle.written.specs.Clauses.{File}
 use Rattle.written.specs.Reading.{accepted, readText}
 use Rattle.written.specs.Tables.{Tables, lent, sizes, fullSizes, areFull}
-use Rattle.written.specs.Outcomes.{leaves, readLeaves}
+use Rattle.written.specs.Outcomes.{ten, tenOf, readLeaves}
 use Rattle.laws.specs.Valid.{Proper}
 use Rattle.laws.proofs.Each.Table.{Places}
 use Rattle.laws.proofs.Holding.{full-at}
@@ -111,7 +111,7 @@ module _ (lim : Limits) (text : List ℕ) (t : Tables) (b : Bare lim t) {v : Tes
   finish-can = can-finish lim t b f proper w p laid top fc ft fl cursors-fit
 
   pub was-whole : {r : Counts} {y : Fixed} {m : Moving} → finishing r y m ≡ finished lim p cut bare
-      → leaves (R.Accepted r) (lent (w .names) (m .words) (y .starts) (y .literals) (y .occurrenceStarts) (y .occurrences) (m .tallies .trues) (m .tallies .breaks)
+      → ten (R.Accepted r) (lent (w .names) (m .words) (y .starts) (y .literals) (y .occurrenceStarts) (y .occurrences) (m .tallies .trues) (m .tallies .breaks)
       (m .tallies .uncovered .list) (m .tallies .uncovered .places))
-      ≡ readLeaves lim t (readText lim text)
-  was-whole e = whole-leaves lim t b f proper w p laid top fc ft fl cursors-fit e ∙ sym (ap (readLeaves lim t) read-is)
+      ≡ tenOf (readLeaves lim t [] (readText lim text))
+  was-whole e = whole-leaves lim t b f proper w p laid top fc ft fl cursors-fit e ∙ sym (ap (λ r. tenOf (readLeaves lim t [] r)) read-is)

@@ -1,6 +1,6 @@
 -- Tables that were cleared: a draft can be begun in them, and where a text is refused they are 0 still, or cleared again. Assumes nothing.
 use mathlib.Core.Path.{_≡_, ap, sym, _∙_, subst}
-use mathlib.Core.List.{List}
+use mathlib.Core.List.{List, []}
 use Prim.Native.Nat.{ℕ, _+_, _≤_, _<_}
 use native.Mathlib.Omega.{arith}
 use lib.ListN.{length}
@@ -11,7 +11,7 @@ use Rattle.written.specs.Limits.{Limits}
 use Rattle.written.specs.Reasons.{fault}
 use Rattle.written.specs.Reading.{refused, readText}
 use Rattle.written.specs.Tables.{Tables, lent, sizes, fullSizes}
-use Rattle.written.specs.Outcomes.{leaves, readLeaves}
+use Rattle.written.specs.Outcomes.{ten, tenOf, readLeaves}
 use Rattle.laws.proofs.Each.Table.{Names, Starts, Literals, Breaks, Places}
 use Rattle.laws.proofs.Holding.{full-at}
 use Rattle.reading_lines.specs.declared.Ended.{Ended}
@@ -30,9 +30,9 @@ use Rattle.reading.proofs.Drafted.{beyond-past}
 
 -- the text fails a test: nothing is written
 module _ (lim : Limits) (text : List ℕ) (t : Tables) (b : Bare lim t) {r : Reason} (h : textTests lim text ≡ Failed r) where
-  failed-leaves : leaves (R.Refused (fault r)) t ≡ readLeaves lim t (readText lim text)
+  failed-leaves : ten (R.Refused (fault r)) t ≡ tenOf (readLeaves lim t [] (readText lim text))
   unfolding readLeaves
-  failed-leaves = ap (leaves (R.Refused (fault r))) (sym (b .zero)) ∙ sym (ap (readLeaves lim t) (failed-read lim text h))
+  failed-leaves = ap (ten (R.Refused (fault r))) (sym (b .zero)) ∙ sym (ap (λ r. tenOf (readLeaves lim t [] r)) (failed-read lim text h))
 
 -- it passes; H homes of names
 module _ (lim : Limits) (text : List ℕ) (t : Tables) (b : Bare lim t) (passed : textTests lim text ≡ Passed) (H : ℕ) (slots-fit : H + lim .terms + 1 ≤ lim .clauses) where
@@ -61,21 +61,21 @@ module _ (lim : Limits) (text : List ℕ) (t : Tables) (b : Bare lim t) (passed 
         (omega (arith, el, full-at lim t Literals (b .full))) (omega (arith, em, full-at lim t Breaks (b .full))) (omega (arith, eo, slots-fit, full-at lim t Places (b .full)))
 
     refused-leaves : {e : Fault} → readAll lim text ≡ refused e → {d : Desk} → d ≡ wiped lim w
-        → leaves (R.Refused e) (lent (d .names) (t .values) (d .starts) (d .literals) (t .occurrenceStarts) (t .occurrences) (t .trues) (d .stamps) (t .uncovered) (d .slots))
-        ≡ readLeaves lim t (readText lim text)
+        → ten (R.Refused e) (lent (d .names) (t .values) (d .starts) (d .literals) (t .occurrenceStarts) (t .occurrences) (t .trues) (d .stamps) (t .uncovered) (d .slots))
+        ≡ tenOf (readLeaves lim t [] (readText lim text))
     unfolding readLeaves
     refused-leaves {e} h {d} q =
         let r = q ∙ wiped-back lim t b w past in
         let u : lent (d .names) (t .values) (d .starts) (d .literals) (t .occurrenceStarts) (t .occurrences) (t .trues) (d .stamps) (t .uncovered) (d .slots) ≡ t =
         (λ i. lent (r i .names) (t .values) (r i .starts) (r i .literals) (t .occurrenceStarts) (t .occurrences) (t .trues) (r i .stamps) (t .uncovered) (r i .slots)) in
-        ap (leaves (R.Refused e)) (u ∙ sym (b .zero)) ∙ sym (ap (readLeaves lim t) (passed-read lim text passed ∙ h))
+        ap (ten (R.Refused e)) (u ∙ sym (b .zero)) ∙ sym (ap (λ r. tenOf (readLeaves lim t [] r)) (passed-read lim text passed ∙ h))
 
 -- ---- put together from what the calls gave, as they gave it
 
 -- v was answered to the tests of the text
 module _ (lim : Limits) (text : List ℕ) (t : Tables) (b : Bare lim t) {v : Tested} (asked : v ≡ textTests lim text) where
   pub was-failed : {r : Reason} → v ≡ Failed r
-      → leaves (R.Refused (fault r)) t ≡ readLeaves lim t (readText lim text)
+      → ten (R.Refused (fault r)) t ≡ tenOf (readLeaves lim t [] (readText lim text))
   was-failed h = failed-leaves lim text t b (sym asked ∙ h)
 
   module _ (told : v ≡ Passed) (H : ℕ) (slots-fit : H + lim .terms + 1 ≤ lim .clauses) where
@@ -86,8 +86,8 @@ module _ (lim : Limits) (text : List ℕ) (t : Tables) (b : Bare lim t) {v : Tes
     pub was-refused : (w : Desk) {z : Ended} {e : Fault} → Drawn H lim text (deskIn t) w z → z ≡ E.Refused e
         → length (w .names) ≡ length (t .names) → length (w .starts) ≡ length (t .starts) → length (w .literals) ≡ length (t .literals)
         → length (w .stamps) ≡ length (t .breaks) → length (w .slots) ≡ length (t .places) → {d : Desk} → d ≡ wiped lim w
-        → leaves (R.Refused e) (lent (d .names) (t .values) (d .starts) (d .literals) (t .occurrenceStarts) (t .occurrences) (t .trues) (d .stamps) (t .uncovered) (d .slots))
-        ≡ readLeaves lim t (readText lim text)
+        → ten (R.Refused e) (lent (d .names) (t .values) (d .starts) (d .literals) (t .occurrenceStarts) (t .occurrences) (t .trues) (d .stamps) (t .uncovered) (d .slots))
+        ≡ tenOf (readLeaves lim t [] (readText lim text))
     was-refused w drawn ended en es el em eo cleared =
         let d = subst (Drawn H lim text (deskIn t) w) ended drawn in
         refused-leaves lim text t b (sym asked ∙ told) H slots-fit w (d .1) en es el em eo (d .0) cleared

@@ -22,23 +22,27 @@ fn begin(
     breaks: &mut [u16],
     uncovered: &mut [u16],
     places: &mut [u16],
+    marks: &mut [u8],
     out: &mut [u8],
 ) -> usize
-    requires { ⌜ CanRun narrow (lentAt names values starts literals «occurrence_starts» occurrences trues breaks uncovered places) (now out) ⌝ }
-    ensures { λ r. ⌜ ended r (lentAfter names values starts literals «occurrence_starts» occurrences trues breaks uncovered places) (now (out .exit))
-        ≡ ran narrow (lentBefore names values starts literals «occurrence_starts» occurrences trues breaks uncovered places) (now (out .entry))
+    requires { ⌜ CanRun narrow (lentAt names values starts literals «occurrence_starts» occurrences trues breaks uncovered places) (now marks) (now out) ⌝ }
+    ensures { λ r. ⌜ ended r (lentAfter names values starts literals «occurrence_starts» occurrences trues breaks uncovered places) (now (marks .exit)) (now (out .exit))
+        ≡ ran narrow (lentBefore names values starts literals «occurrence_starts» occurrences trues breaks uncovered places) (now (marks .entry))
+        (now (out .entry))
         (courseOf narrow (now (input .entry))) ⌝ }
 {
     match running_input::set_out(input) {
         Outset::Long(e) => {
             reading_end::clear_draft(names, starts, literals, breaks, places);
             reading_end::clear_others(values, occurrence_starts, occurrences, trues, uncovered);
+            tables::clear_bytes(marks, 2048);
             running_report::refusal(out, e)
         }
         Outset::Refused(e) => running_report::refusal(out, e),
         Outset::Begins(s) => {
             let order = s.order;
             let at = s.at as usize;
+            tables::clear_bytes(marks, 2048);
             running_text::read_on(
                 order,
                 &input[at..],
@@ -52,6 +56,7 @@ fn begin(
                 breaks,
                 uncovered,
                 places,
+                marks,
                 out,
             )
         }
@@ -82,13 +87,15 @@ pub fn run_sheet(
     breaks: &mut [u16],
     uncovered: &mut [u16],
     places: &mut [u16],
+    marks: &mut [u8],
     out: &mut [u8],
 ) -> RunAnswer
-    ensures { λ r. ⌜ answered r (lentAfter names values starts literals «occurrence_starts» occurrences trues breaks uncovered places) (now (out .exit))
+    ensures { λ r. ⌜ answered r (lentAfter names values starts literals «occurrence_starts» occurrences trues breaks uncovered places) (now (marks .exit))
+        (now (out .exit))
         ≡ runOf narrow (now (input .entry)) (lentBefore names values starts literals «occurrence_starts» occurrences trues breaks uncovered places)
-        (now (out .entry)) ⌝ }
+        (now (marks .entry)) (now (out .entry)) ⌝ }
 {
-    if !tables::are_full(
+    if !tables::all_full(
         names,
         values,
         starts,
@@ -99,6 +106,7 @@ pub fn run_sheet(
         breaks,
         uncovered,
         places,
+        marks,
     ) {
         return refused(); // a table is short
     }
@@ -117,6 +125,7 @@ pub fn run_sheet(
         breaks,
         uncovered,
         places,
+        marks,
         out,
     );
     RunAnswer {

@@ -11,8 +11,10 @@ use borrow.Author.Tests.{lt-ltb, le-ltb}
 use Rattle.written.specs.declared.RunAnswer.{RunAnswer}
 use Rattle.written.specs.Limits.{Limits, narrow}
 use Rattle.written.specs.Tables.{Tables, areFull}
+use Rattle.written.specs.Marks.{marksFull}
 use Rattle.written.specs.Program.{courseOf, printed, reportSize, ran, runOf}
 use Rattle.laws.proofs.Basics.{by-lt}
+use Rattle.laws.proofs.Marks.{full-both}
 use Rattle.laws.proofs.RunCalls.{run-ran}
 use Rattle.pages.specs.Pages.{Page, page, put}
 use Rattle.running_text.specs.Running.{answered}
@@ -20,11 +22,11 @@ use Rattle.running_text.proofs.Ends.{front}
 use Rattle.running_alone.specs.Seeing.{CanSee, endTold, seenWhole, shownOf, Within}
 
 -- on full tables
-pub alone-ends : (lim : Limits) (input : List ℕ) (b : List ℕ) → reportSize lim ≤ length b → (t : Tables) → areFull lim t ≡ true
-    → {a : RunAnswer} {u : Tables} {out : List ℕ} → answered a u out ≡ runOf lim input t b → page (a .length) out ≡ put (printed lim input) (page 0 b)
+pub alone-ends : (lim : Limits) (input : List ℕ) (b : List ℕ) → reportSize lim ≤ length b → (t : Tables) (ms : List ℕ) → areFull lim t ≡ true → marksFull lim ms ≡ true
+    → {a : RunAnswer} {u : Tables} {us out : List ℕ} → answered a u us out ≡ runOf lim input t ms b → page (a .length) out ≡ put (printed lim input) (page 0 b)
 unfolding ran printed
-alone-ends lim input b room t full e =
-    let all = e ∙ run-ran lim input t b full room in
+alone-ends lim input b room t ms full marks e =
+    let all = e ∙ run-ran lim input t ms b (full-both lim t ms full marks) room in
     (λ i. page (all i .answer .length) (all i .buffer)) ∙ sym (front (printed lim input) b)
 
 -- what stands first in a buffer is within it

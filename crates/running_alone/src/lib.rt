@@ -1,4 +1,4 @@
-// The program's whole work with tables of its own, for a program: they take 160 KB of stack.
+// The program's whole work with tables of its own, for a program: they take 162 KB of stack.
 ghost use mathlib.Core.Path.{_≡_};
 ghost use Prim.Native.Nat.{_≤_};
 ghost use lib.ListN.{length};
@@ -22,6 +22,7 @@ pub fn run_alone(input: &[u8], out: &mut [u8]) -> usize
     let mut breaks = [0u16; 2048];
     let mut uncovered = [0u16; 8192];
     let mut places = [0u16; 8192];
+    let mut marks = [0u8; 2048];
     let answer = running::run_sheet(
         input,
         &mut names,
@@ -34,6 +35,7 @@ pub fn run_alone(input: &[u8], out: &mut [u8]) -> usize
         &mut breaks,
         &mut uncovered,
         &mut places,
+        &mut marks,
         out,
     );
     answer.length

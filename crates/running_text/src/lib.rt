@@ -1,6 +1,7 @@
-// Clause text read and walked over, with the result lines in a lent buffer.
+// Clause text read and walked over, with no term pinned, and the result lines in a lent buffer.
 // A function that asks something of its tables or of the buffer does so by one record, which its caller proves.
 ghost use mathlib.Core.Path.{_≡_};
+ghost use mathlib.Core.List.{[]};
 ghost use Rattle.written.specs.Limits.{narrow};
 ghost use Rattle.written.specs.Lending.{lentAt, lentBefore, lentAfter};
 ghost use Rattle.written.specs.Agreement.{fileIn};
@@ -26,12 +27,14 @@ fn walk_on(
     breaks: &mut [u16],
     uncovered: &mut [u16],
     places: &mut [u16],
+    marks: &[u8],
     out: &mut [u8],
 ) -> usize
-    requires { ⌜ CanWalk narrow order n (lentAt names values starts literals «occurrence_starts» occurrences trues breaks uncovered places) (now out) ⌝ }
-    ensures { λ r. ⌜ ended r (lentAfter names values starts literals «occurrence_starts» occurrences trues breaks uncovered places) (now (out .exit))
-        ≡ ran narrow (lentBefore names values starts literals «occurrence_starts» occurrences trues breaks uncovered places) (now (out .entry))
-        (walked (walkOver order (fileIn n (lentBefore names values starts literals «occurrence_starts» occurrences trues breaks uncovered places)))) ⌝ }
+    requires { ⌜ CanWalk narrow order n (lentAt names values starts literals «occurrence_starts» occurrences trues breaks uncovered places) (now marks) (now out) ⌝ }
+    ensures { λ r. ⌜ ended r (lentAfter names values starts literals «occurrence_starts» occurrences trues breaks uncovered places) (now (marks .exit)) (now (out .exit))
+        ≡ ran narrow (lentBefore names values starts literals «occurrence_starts» occurrences trues breaks uncovered places) (now (marks .entry))
+        (now (out .entry))
+        (walked (walkOver order [] (fileIn n (lentBefore names values starts literals «occurrence_starts» occurrences trues breaks uncovered places)))) ⌝ }
 {
     let answer = walking::walk_tested(
         order,
@@ -46,6 +49,7 @@ fn walk_on(
         breaks,
         uncovered,
         places,
+        marks,
     );
     running_report::report(out, answer, names, values)
 }
@@ -64,14 +68,16 @@ pub fn read_on(
     breaks: &mut [u16],
     uncovered: &mut [u16],
     places: &mut [u16],
+    marks: &[u8],
     out: &mut [u8],
 ) -> usize
-    requires { ⌜ CanRead narrow order (lentAt names values starts literals «occurrence_starts» occurrences trues breaks uncovered places) (now out) ⌝ }
-    ensures { λ r. ⌜ ended r (lentAfter names values starts literals «occurrence_starts» occurrences trues breaks uncovered places) (now (out .exit))
-        ≡ ran narrow (lentBefore names values starts literals «occurrence_starts» occurrences trues breaks uncovered places) (now (out .entry))
+    requires { ⌜ CanRead narrow order (lentAt names values starts literals «occurrence_starts» occurrences trues breaks uncovered places) (now marks) (now out) ⌝ }
+    ensures { λ r. ⌜ ended r (lentAfter names values starts literals «occurrence_starts» occurrences trues breaks uncovered places) (now (marks .exit)) (now (out .exit))
+        ≡ ran narrow (lentBefore names values starts literals «occurrence_starts» occurrences trues breaks uncovered places) (now (marks .entry))
+        (now (out .entry))
         (afterReading order (readText narrow (now (text .entry)))) ⌝ }
 {
-    match reading::read(
+    match reading::read_full(
         text,
         names,
         values,
@@ -98,6 +104,7 @@ pub fn read_on(
             breaks,
             uncovered,
             places,
+            marks,
             out,
         ),
     }

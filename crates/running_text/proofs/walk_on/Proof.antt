@@ -8,18 +8,18 @@ use Rattle.running_text.proofs.walk_on.Tie as tie
 report-requires : tie.Need-report-requires
 report-requires c κs =
     let made = c .before .before .before .before .before .before .before .before .before .before .before .before in
-    walk-reports narrow _ _ _ _ (made .before .before .before .before .before .before .before .before .before .before .before .before .before .before .before .before .before .pre) (made .walk-tested .ensures) (omega arith)
+    walk-reports narrow _ _ _ _ _ (made .before .before .before .before .before .before .before .before .before .before .before .before .before .before .before .before .before .before .pre) (made .walk-tested .ensures) (omega arith)
 
 returns : tie.Need-returns
 returns c =
     let said = c .before .before in
     let made = said .before .before .before .before .before .before .before .before .before .before .before .before .before in
-    walk-ends narrow _ _ _ _ (made .before .before .before .before .before .before .before .before .before .before .before .before .before .before .before .before .before .pre) (made .walk-tested .ensures) (said .report .ensures)
+    walk-ends narrow _ _ _ _ _ (made .before .before .before .before .before .before .before .before .before .before .before .before .before .before .before .before .before .before .pre) (made .walk-tested .ensures) (said .report .ensures)
 
 pub walk-on-spec : {M : Type 1} → statement M
 walk-on-spec =
     tie.close
-    (tie.spec (λ c κs. c .before .before .before .before .before .before .before .before .before .before .before .before .before .before .before .before .pre .allowed) report-requires
+    (tie.spec (λ c κs. c .before .before .before .before .before .before .before .before .before .before .before .before .before .before .before .before .before .pre .allowed) report-requires
     (λ c. c .before .before .before .before .before .before .before .before .before .before .before .before .before .before .values .given)
     (λ c. c .before .before .before .before .before .before .before .before .before .before .before .before .trues .given)
     (λ c. c .before .before .before .before .before .before .before .before .before .before .breaks .given)
