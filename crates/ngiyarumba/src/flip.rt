@@ -25,11 +25,14 @@ pub extern "C" fn ngi_flip(
     break_counts: &mut [u16],
     uncovered_list: &mut [u16],
     places: &mut [u16],
+    marks: &[u8],
 ) -> FlipAnswer
     ensures { λ r. ⌜ leaves r
         (lentAfter names values starts «literals_table» «occurrence_starts» occurrences «true_counts» «break_counts» «uncovered_list» places)
+        (now (marks .exit))
         ≡ told flipAnswer (flipsOf narrow (now (list .entry)) (counts terms clauses literals uncovered)
-        (lentBefore names values starts «literals_table» «occurrence_starts» occurrences «true_counts» «break_counts» «uncovered_list» places)) ⌝ }
+        (lentBefore names values starts «literals_table» «occurrence_starts» occurrences «true_counts» «break_counts» «uncovered_list» places)
+        (now (marks .entry))) ⌝ }
 {
     let n = Counts {
         terms: terms,
@@ -50,6 +53,7 @@ pub extern "C" fn ngi_flip(
         break_counts,
         uncovered_list,
         places,
+        marks,
     );
     answers::flip::flip_answer(answer)
 }

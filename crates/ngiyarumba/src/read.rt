@@ -6,7 +6,7 @@ ghost use Rattle.written.specs.Outcomes.{leaves, told, readingOf};
 ghost use Rattle.answers.specs.Answers.{readAnswer};
 use answers::read::ReadAnswer;
 
-// Clause text read into the ten tables, or refused: reason 1 changes nothing, any other leaves the full sizes 0.
+// Clause text read into the tables, or refused: reason 1 changes nothing, any other leaves the full sizes 0. No term is marked then.
 #[no_mangle]
 pub extern "C" fn ngi_read(
     text: &[u8],
@@ -20,11 +20,14 @@ pub extern "C" fn ngi_read(
     break_counts: &mut [u16],
     uncovered_list: &mut [u16],
     places: &mut [u16],
+    marks: &mut [u8],
 ) -> ReadAnswer
     ensures { λ r. ⌜ leaves r
         (lentAfter names values starts «literals_table» «occurrence_starts» occurrences «true_counts» «break_counts» «uncovered_list» places)
+        (now (marks .exit))
         ≡ told readAnswer (readingOf narrow (now (text .entry))
-        (lentBefore names values starts «literals_table» «occurrence_starts» occurrences «true_counts» «break_counts» «uncovered_list» places)) ⌝ }
+        (lentBefore names values starts «literals_table» «occurrence_starts» occurrences «true_counts» «break_counts» «uncovered_list» places)
+        (now (marks .entry))) ⌝ }
 {
     let answer = reading::read(
         text,
@@ -38,6 +41,7 @@ pub extern "C" fn ngi_read(
         break_counts,
         uncovered_list,
         places,
+        marks,
     );
     answers::read::read_answer(answer)
 }

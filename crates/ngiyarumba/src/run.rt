@@ -20,13 +20,15 @@ pub extern "C" fn ngi_run(
     break_counts: &mut [u16],
     uncovered_list: &mut [u16],
     places: &mut [u16],
+    marks: &mut [u8],
     out: &mut [u8],
 ) -> RunAnswer
     ensures { λ r. ⌜ answered r
-        (lentAfter names values starts «literals_table» «occurrence_starts» occurrences «true_counts» «break_counts» «uncovered_list» places) (now (out .exit))
+        (lentAfter names values starts «literals_table» «occurrence_starts» occurrences «true_counts» «break_counts» «uncovered_list» places)
+        (now (marks .exit)) (now (out .exit))
         ≡ runOf narrow (now (input .entry))
         (lentBefore names values starts «literals_table» «occurrence_starts» occurrences «true_counts» «break_counts» «uncovered_list» places)
-        (now (out .entry)) ⌝ }
+        (now (marks .entry)) (now (out .entry)) ⌝ }
 {
     running::run_sheet(
         input,
@@ -40,6 +42,7 @@ pub extern "C" fn ngi_run(
         break_counts,
         uncovered_list,
         places,
+        marks,
         out,
     )
 }

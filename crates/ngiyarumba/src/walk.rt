@@ -30,11 +30,14 @@ pub extern "C" fn ngi_walk(
     break_counts: &mut [u16],
     uncovered_list: &mut [u16],
     places: &mut [u16],
+    marks: &[u8],
 ) -> WalkAnswer
     ensures { λ r. ⌜ leaves r
         (lentAfter names values starts «literals_table» «occurrence_starts» occurrences «true_counts» «break_counts» «uncovered_list» places)
+        (now (marks .exit))
         ≡ told walkAnswer (walkOf narrow (order seed flips walks bias even) (counts terms clauses literals uncovered)
-        (lentBefore names values starts «literals_table» «occurrence_starts» occurrences «true_counts» «break_counts» «uncovered_list» places)) ⌝ }
+        (lentBefore names values starts «literals_table» «occurrence_starts» occurrences «true_counts» «break_counts» «uncovered_list» places)
+        (now (marks .entry))) ⌝ }
 {
     let o = Order {
         seed: seed,
@@ -62,6 +65,7 @@ pub extern "C" fn ngi_walk(
         break_counts,
         uncovered_list,
         places,
+        marks,
     );
     answers::walk::walk_answer(answer)
 }

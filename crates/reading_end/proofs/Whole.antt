@@ -1,6 +1,6 @@
 -- A file laid in cleared tables: it can be finished, and the tables are then those written for it; wiped, they are 0 again. Assumes nothing.
 use mathlib.Core.Path.{_≡_, ap, sym, _∙_, subst, subst₂}
-use mathlib.Core.List.{List, _++_, flatten}
+use mathlib.Core.List.{List, [], _++_, flatten}
 use Prim.Native.Nat.{ℕ, _+_, _*_, _≤_, _<_}
 use native.Mathlib.Omega.{arith}
 use lib.ListN.{length, drop}
@@ -11,7 +11,7 @@ use Rattle.written.specs.Limits.{Limits}
 use Rattle.written.specs.Clauses.{File, State, afresh, asRead}
 use Rattle.written.specs.Tables.{Tables, lent, sizes, fullSizes, startsFrom, turnedRound, inUse, over, countsOf, holding}
 use Rattle.written.specs.Reading.{accepted}
-use Rattle.written.specs.Outcomes.{leaves, readLeaves}
+use Rattle.written.specs.Outcomes.{ten, tenOf, readLeaves}
 use Rattle.laws.specs.Valid.{Proper, Valid}
 use Rattle.laws.proofs.Lists.{padded-length}
 use Rattle.laws.proofs.Parts.{flatten-length}
@@ -166,11 +166,11 @@ module _ (lim : Limits) (t : Tables) (b : Bare lim t) (f : File) (proper : Prope
       ended : finishing r y v ≡ finishing (countsOf s) (fixedIn h) (movingIn (length (s .uncovered)) h)
       ended = e ∙ finished-is
 
-      pub whole-leaves : leaves (R.Accepted r) (lent (w .names) (v .words) (y .starts) (y .literals) (y .occurrenceStarts) (y .occurrences) (v .tallies .trues)
-          (v .tallies .breaks) (v .tallies .uncovered .list) (v .tallies .uncovered .places)) ≡ readLeaves lim t (accepted f)
+      pub whole-leaves : ten (R.Accepted r) (lent (w .names) (v .words) (y .starts) (y .literals) (y .occurrenceStarts) (y .occurrences) (v .tallies .trues)
+          (v .tallies .breaks) (v .tallies .uncovered .list) (v .tallies .uncovered .places)) ≡ tenOf (readLeaves lim t [] (accepted f))
       unfolding readLeaves
       whole-leaves =
           let g = ended in
           let n = names-are in
-          λ i. leaves (R.Accepted (g i .counts)) (lent (n i) (g i .moved .words) (g i .clauses .starts) (g i .clauses .literals) (g i .clauses .occurrenceStarts)
+          λ i. ten (R.Accepted (g i .counts)) (lent (n i) (g i .moved .words) (g i .clauses .starts) (g i .clauses .literals) (g i .clauses .occurrenceStarts)
           (g i .clauses .occurrences) (g i .moved .tallies .trues) (g i .moved .tallies .breaks) (g i .moved .tallies .uncovered .list) (g i .moved .tallies .uncovered .places))

@@ -22,5 +22,6 @@ pub fn number_of(reason: Reason) -> u32
         Reason::UnknownTerm => 13,
         Reason::ListTooLong => 14,
         Reason::BlankLine => 15,
+        Reason::PinnedTerm => 20,
     }
 }

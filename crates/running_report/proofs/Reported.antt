@@ -56,14 +56,14 @@ module _ (lim : Limits) (s : State) (t : Tables) (v : Valid lim s) where
 
 -- ---- what a walk leaves
 
-module _ (lim : Limits) (e : Outcome) (t : Tables) (v : Valid lim (e .last .state)) (f : areFull lim t ≡ true) where
-  pub reported : reportIn lim (walkLeaves lim t e .answer) (walkLeaves lim t e .tables .names) (walkLeaves lim t e .tables .values) ≡ report e
+module _ (lim : Limits) (e : Outcome) (t : Tables) (ms : List ℕ) (v : Valid lim (e .last .state)) (f : areFull lim t ≡ true) where
+  pub reported : reportIn lim (walkLeaves lim t ms e .answer) (walkLeaves lim t ms e .tables .names) (walkLeaves lim t ms e .tables .values) ≡ report e
   unfolding walkLeaves reportIn foundLines gaveUpLines report
   reported =
       by-cases (e .found)
       (λ q. rw (q, chosen-left lim (e .last .state) t v, answer-left lim (e .last .state) t v))
       (λ q. rw q)
 
-  pub report-named : namesIn (walkLeaves lim t e .answer) ≤ length (walkLeaves lim t e .tables .names)
+  pub report-named : namesIn (walkLeaves lim t ms e .answer) ≤ length (walkLeaves lim t ms e .tables .names)
   unfolding walkLeaves
   report-named = by-cases (e .found) (λ q. rw q (names-left lim (e .last .state) t v f)) (λ q. rw q (omega arith))

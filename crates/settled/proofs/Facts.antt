@@ -35,6 +35,14 @@ Five R =
 abbrev pub five : {R : Type 0} → Tables → R → Five R
 five t r = (tt, (t .values, (tt, (tt, (tt, (tt, (t .trues, (t .breaks, (t .uncovered, (t .places, r))))))))))
 
+-- and where all ten are lent to be read
+abbrev pub None : Type 0 → Type 0
+None R =
+    Unit {0} × (Unit {0} × (Unit {0} × (Unit {0} × (Unit {0} × (Unit {0} × (Unit {0} × (Unit {0} × (Unit {0} × (Unit {0} × R)))))))))
+
+abbrev pub none : {R : Type 0} → R → None R
+none r = (tt, (tt, (tt, (tt, (tt, (tt, (tt, (tt, (tt, (tt, r))))))))))
+
 module _ {M : Type 1} (𝓤 : URA M) where
   pub both : {A B C : Type 0} → (A → B → C) → ent 𝓤 (conj 𝓤 (fact 𝓤 A) (fact 𝓤 B)) (fact 𝓤 C)
   both {A} {B} {C} f =

@@ -5,7 +5,13 @@ use mathlib.Core.List.{List}
 use Rattle.machine.specs.Uncovered.{Uncovered}
 use Rattle.machine.specs.Tallies.{Tallies}
 use Rattle.machine.specs.Moving.{Moving}
+use Rattle.written.specs.declared.Counts.{Counts}
+use Rattle.written.specs.declared.Read.{Read}
+use Rattle.written.specs.declared.Flipped.{Flipped}
+use Rattle.written.specs.declared.Flipped.the-variants as F
+use Rattle.written.specs.Outcomes.{Ten}
 use Rattle.walking_choice.specs.declared.Picked.{Picked}
+use Rattle.walking_choice.specs.Choosing.{Lowest}
 use Rattle.walking_steps.specs.declared.At.{At}
 use Rattle.walking_steps.specs.Stepping.{Stand, uncoveredNumber}
 use Rattle.reading_lines.specs.Drafting.{Desk}
@@ -23,6 +29,7 @@ use Rattle.tables.proofs.one_for as one-for
 use Rattle.tables.proofs.clear as clear
 use Rattle.tables.proofs.clear_words as clear-words
 use Rattle.tables.proofs.clear_names as clear-names
+use Rattle.tables.proofs.clear_bytes as clear-bytes
 use Rattle.tables.proofs.raise as raise
 use Rattle.tables.proofs.enter as enter
 use Rattle.occurrences.proofs.turn_round as turn-round
@@ -36,10 +43,13 @@ use Rattle.names.proofs.add as add
 use Rattle.flipping.proofs.flip_term as flip-term
 use Rattle.flipping.proofs.flip_all as flip-all
 use Rattle.walking_choice.proofs.chosen_from as chosen-from
+use Rattle.walking_choice.proofs.least_in as least-in
 use Rattle.walking_choice.proofs.literal_in as literal-in
 use Rattle.walking_steps.proofs.one_walk as one-walk
 use Rattle.walking.proofs.walk_tested as walk-tested
 use Rattle.reading_end.proofs.verdict as verdict
+use Rattle.flipping_lists.proofs.flip_agreeing as flip-agreeing
+use Rattle.reading.proofs.read_full as read-full
 use Rattle.reading_end.proofs.clear_draft as clear-draft
 use Rattle.reading_end.proofs.clear_others as clear-others
 use Rattle.reading_end.proofs.finish as finish
@@ -73,6 +83,9 @@ clear-words-settled M 𝓤 H A mem run κs a g = record { asks-nothing = refl; o
 
 pub clear-names-settled : Public clear-names.ended (λ M. clear-names.clauses)
 clear-names-settled M 𝓤 H A mem run κs a g = record { asks-nothing = refl; one-outcome = λ x y. both 𝓤 (λ p q. same refl (ap (λ xs. (xs, (tt, tt))) (meet p q))) }
+
+pub clear-bytes-settled : Public clear-bytes.ended (λ M. clear-bytes.clauses)
+clear-bytes-settled M 𝓤 H A mem run κs a g = record { asks-nothing = refl; one-outcome = λ x y. both 𝓤 (λ p q. same refl (ap (λ xs. (xs, (tt, tt))) (meet p q))) }
 
 pub raise-settled : Inner raise.ended (λ M. raise.clauses)
 raise-settled M 𝓤 H A mem run κs a g = record { one-outcome = λ x y. all-three 𝓤 (λ r p q. same refl (ap (λ xs. (xs, (tt, tt))) (meet p q))) }
@@ -114,6 +127,18 @@ flip-term-settled M 𝓤 H A mem run κs a g = record { one-outcome = λ x y. al
 pub flip-all-settled : Inner flip-all.ended (λ M. flip-all.clauses)
 flip-all-settled M 𝓤 H A mem run κs a g = record { one-outcome = λ x y. all-three 𝓤 (λ r p q. let e = meet p q in same (ap (λ m. m .tallies .uncovered .number) e) (ap (λ (m : Moving). (tt, (m .words, (tt, (tt, counted m (tt, tt)))))) e)) }
 
+-- the counts of an answer
+abbrev countsOf : Flipped → Counts
+countsOf (F.Applied n) = n
+countsOf (F.Refused e) = e .counts
+
+pub flip-agreeing-settled : Inner flip-agreeing.ended (λ M. flip-agreeing.clauses)
+flip-agreeing-settled M 𝓤 H A mem run κs a g =
+    record {
+      one-outcome = λ x y. all-three 𝓤
+          (λ r p q. let e = meet p q in same (ap (λ (l : Ten Flipped). countsOf (l .answer)) e) (ap (λ (l : Ten Flipped). (tt, (tt, five (l .tables) tt))) e));
+    }
+
 -- what was picked, and where a walk stands, as the code hands it back
 abbrev handed : Pick → Picked
 handed p = record { entry = p .picked; next = record { state = p .state } }
@@ -124,14 +149,17 @@ standing v = record { number = uncoveredNumber v; generator = record { state = v
 pub chosen-from-settled : Inner chosen-from.ended (λ M. chosen-from.clauses)
 chosen-from-settled M 𝓤 H A mem run κs a g = record { one-outcome = λ x y. all-three 𝓤 (λ r p q. same (ap handed (meet p q)) refl) }
 
+pub least-in-settled : Inner least-in.ended (λ M. least-in.clauses)
+least-in-settled M 𝓤 H A mem run κs a g = record { one-outcome = λ x y. all-three 𝓤 (λ r p q. same (ap (λ (s : Lowest). record { low = s .low; number = s .number; first = s .first }) (meet p q)) refl) }
+
 pub literal-in-settled : Inner literal-in.ended (λ M. literal-in.clauses)
 literal-in-settled M 𝓤 H A mem run κs a g = record { one-outcome = λ x y. all-three 𝓤 (λ r p q. same (ap handed (meet p q)) refl) }
 
 pub one-walk-settled : Inner one-walk.ended (λ M. one-walk.clauses)
-one-walk-settled M 𝓤 H A mem run κs a g = record { one-outcome = λ x y. all-three 𝓤 (λ r p q. let e = meet p q in same (ap standing e) (ap (λ (v : Stand). (tt, (tt, (v .tables .words, (tt, (tt, (tt, (tt, counted (v .tables) (tt, tt))))))))) e)) }
+one-walk-settled M 𝓤 H A mem run κs a g = record { one-outcome = λ x y. all-three 𝓤 (λ r p q. let e = meet p q in same (ap standing e) (ap (λ (v : Stand). (tt, (tt, (v .tables .words, (tt, (tt, (tt, (tt, counted (v .tables) (tt, (tt, tt)))))))))) e)) }
 
 pub walk-tested-settled : Inner walk-tested.ended (λ M. walk-tested.clauses)
-walk-tested-settled M 𝓤 H A mem run κs a g = record { one-outcome = λ x y. all-three 𝓤 (λ r p q. let e = meet p q in same (the-answer e) (ap (λ l. (tt, (tt, five (l .tables) tt))) e)) }
+walk-tested-settled M 𝓤 H A mem run κs a g = record { one-outcome = λ x y. all-three 𝓤 (λ r p q. let e = meet p q in same (the-answer e) (ap (λ l. (tt, (tt, five (l .tables) (tt, tt)))) e)) }
 
 pub verdict-settled : Public verdict.ended (λ M. verdict.clauses)
 verdict-settled M 𝓤 H A mem run κs a g = record { asks-nothing = refl; one-outcome = λ x y. both 𝓤 (λ p q. same (meet p q) refl) }
@@ -178,8 +206,12 @@ refusal-settled M 𝓤 H A mem run κs a g = record { one-outcome = λ x y. all-
 pub report-settled : Inner report.ended (λ M. report.clauses)
 report-settled M 𝓤 H A mem run κs a g = record { one-outcome = λ x y. all-three 𝓤 (λ r p q. let e = meet p q in same (ap (λ s. s .at) e) (ap (λ (s : Page). (s .buffer, (tt, (tt, (tt, tt))))) e)) }
 
+pub read-full-settled : Inner read-full.ended (λ M. read-full.clauses)
+read-full-settled M 𝓤 H A mem run κs a g =
+    record { one-outcome = λ x y. all-three 𝓤 (λ r p q. let e = meet p q in same (ap (λ (l : Ten Read). l .answer) e) (ap (λ (l : Ten Read). (tt, ten (l .tables) tt)) e)) }
+
 pub read-on-settled : Inner read-on.ended (λ M. read-on.clauses)
-read-on-settled M 𝓤 H A mem run κs a g = record { one-outcome = λ x y. all-three 𝓤 (λ r p q. let e = meet p q in same (ap (λ (w : Ran). w .answer .length) e) (ap (λ (w : Ran). (tt, (tt, ten (w .tables) (w .buffer, tt)))) e)) }
+read-on-settled M 𝓤 H A mem run κs a g = record { one-outcome = λ x y. all-three 𝓤 (λ r p q. let e = meet p q in same (ap (λ (w : Ran). w .answer .length) e) (ap (λ (w : Ran). (tt, (tt, ten (w .tables) (tt, (w .buffer, tt))))) e)) }
 
 pub run-alone-settled : Inner run-alone.ended (λ M. run-alone.clauses)
 run-alone-settled M 𝓤 H A mem run κs a g = record { one-outcome = λ x y. all-three 𝓤 (λ r p q. let e = meet (p .0) (q .0) in same (ap (λ s. s .at) e) (ap (λ (s : Page). (tt, (s .buffer, tt))) e)) }

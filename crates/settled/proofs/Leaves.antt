@@ -15,6 +15,7 @@ use Rattle.words.proofs.turn as turn
 use Rattle.words.proofs.put as put
 use Rattle.words.proofs.chosen as chosen
 use Rattle.words.proofs.fill as fill
+use Rattle.words.proofs.hold as hold
 use Rattle.words.proofs.least as least
 use Rattle.scan.proofs.Cursor.first as first
 use Rattle.scan.proofs.Cursor.next as next
@@ -82,6 +83,9 @@ chosen-settled M 𝓤 H A mem run κs a g = record { asks-nothing = refl; one-ou
 
 pub fill-settled : Public fill.ended (λ M. fill.clauses)
 fill-settled M 𝓤 H A mem run κs a g = record { asks-nothing = refl; one-outcome = λ x y. both 𝓤 (λ p q. same (λ i. record { state = meet (p .0) (q .0) i }) (ap (λ ws. (ws, (tt, (tt, tt)))) (meet (p .1) (q .1)))) }
+
+pub hold-settled : Public hold.ended (λ M. hold.clauses)
+hold-settled M 𝓤 H A mem run κs a g = record { asks-nothing = refl; one-outcome = λ x y. both 𝓤 (λ p q. same refl (ap (λ ws. (ws, (tt, (tt, tt)))) (meet p q))) }
 
 pub least-settled : Public least.ended (λ M. least.clauses)
 least-settled M 𝓤 H A mem run κs a g = record { asks-nothing = refl; one-outcome = λ x y. both 𝓤 (λ p q. same (meet p q) refl) }
