@@ -3,14 +3,20 @@
 
 use std::fmt::Display;
 
+use oracle::agree::agree;
 use oracle::draw::{choice, choice_even, heads};
-use oracle::flips::flip;
+use oracle::flips::{flip, FlipAnswer};
 use oracle::generate::{
-    draw_case, flip_case, read_case, reader_case, run_case, walk_case, DrawCase, Random,
+    damage_of, draw_case, flip_case, order_in_range, pin_case, pin_of_some_term, pinned_tables,
+    read_case, reader_case, run_case, walk_case, DamageKind, DrawCase, FlipCase, PinCase, Random,
+    WalkCase,
 };
+use oracle::marks::FREE;
+use oracle::pins::{lift, pin};
 use oracle::reader::ReaderStep;
 use oracle::reading::read;
-use oracle::walk::walk;
+use oracle::reasons::PINNED_TERM;
+use oracle::walk::{walk, walk_telling, End, Event};
 use oracle::{run_on, Counts, Limits, Reader, Tables};
 
 /// Small enough for the prover to compute, and met by short texts.
@@ -28,6 +34,43 @@ const FLIPS: u64 = 40;
 /// As do longer texts where each of many steps looks at the whole of them.
 const SCANNED: usize = 60;
 
+/// Makes a row, or none where the prover would take too long or the case is not of the kind.
+type Make = fn(&mut Random) -> Option<String>;
+
+/// What a list, a pin or a lift answers, and the tables that it leaves.
+type Done = (FlipAnswer, Tables);
+
+/// The kinds of row, one after the other: 180 rows are nine times these.
+const KINDS: [Make; 20] = [
+    reading,
+    walking,
+    flipping,
+    running,
+    drawing,
+    scanning,
+    pinning,
+    lifting,
+    reading,
+    walking_with_pins,
+    flipping_with_pins,
+    on_damaged_marks,
+    pinning_with_a_flip,
+    lifting_a_pin,
+    reading,
+    running,
+    scanning,
+    naming_a_pin,
+    sticking,
+    on_short_marks,
+];
+
+/// Damage to marks alone.
+const MARKS: [DamageKind; 3] = [
+    DamageKind::MarkPast2,
+    DamageKind::PinnedAtTheOtherValue,
+    DamageKind::MarkPastTheTerms,
+];
+
 fn main() {
     let numbers: Vec<u64> = std::env::args()
         .skip(1)
@@ -38,28 +81,26 @@ fn main() {
         return;
     };
     let mut random = Random::new(seed);
-    let mut printed = 0;
-    while printed < count {
-        let row = match printed % 6 {
-            0 => reading(&mut random),
-            1 => walking(&mut random),
-            2 => flipping(&mut random),
-            3 => running(&mut random),
-            4 => drawing(&mut random),
-            _ => scanning(&mut random),
-        };
-        if let Some(row) = row {
-            println!("{row}");
-            printed += 1;
+    for make in KINDS.iter().cycle().take(count as usize) {
+        println!("{}", made(*make, &mut random));
+    }
+}
+
+/// The first row that is made.
+fn made(make: Make, random: &mut Random) -> String {
+    loop {
+        if let Some(row) = make(random) {
+            return row;
         }
     }
 }
 
 fn reading(random: &mut Random) -> Option<String> {
-    let case = read_case(&LIMITS, random);
+    let mut case = read_case(&LIMITS, random);
     if case.text.len() > LIMITS.text + 1 {
         return None;
     }
+    lend_marks(&mut case.tables, random);
     let mut after = case.tables.clone();
     let told = read(&LIMITS, &case.text, &mut after);
     let numbers = [told.result, told.reason, told.line, 0, 0];
@@ -72,7 +113,30 @@ fn reading(random: &mut Random) -> Option<String> {
 }
 
 fn walking(random: &mut Random) -> Option<String> {
+    walk_row(&walk_case(&LIMITS, random))
+}
+
+/// On tables that agree, with pinned terms that leave each walk a literal to look at.
+fn walking_with_pins(random: &mut Random) -> Option<String> {
     let case = walk_case(&LIMITS, random);
+    let wanted = holds_a_pin(&case.counts, &case.tables) && !sticks(&case);
+    wanted.then(|| walk_row(&case)).flatten()
+}
+
+/// A walk comes to a clause with no literal of a free term.
+fn sticking(random: &mut Random) -> Option<String> {
+    let case = walk_case(&LIMITS, random);
+    sticks(&case).then(|| walk_row(&case)).flatten()
+}
+
+fn sticks(case: &WalkCase) -> bool {
+    let (mut after, mut stuck) = (case.tables.clone(), false);
+    let mut tell = |event| stuck |= event == Event::End(End::Stuck);
+    walk_telling(&LIMITS, &case.order, case.counts, &mut after, &mut tell);
+    stuck
+}
+
+fn walk_row(case: &WalkCase) -> Option<String> {
     if case.order.is_in_range() && case.order.flips * case.order.walks > FLIPS {
         return None;
     }
@@ -89,23 +153,94 @@ fn walking(random: &mut Random) -> Option<String> {
 }
 
 fn flipping(random: &mut Random) -> Option<String> {
+    Some(flip_row(&flip_case(&LIMITS, random)))
+}
+
+/// On tables that agree, with pinned terms.
+fn flipping_with_pins(random: &mut Random) -> Option<String> {
     let case = flip_case(&LIMITS, random);
+    holds_a_pin(&case.counts, &case.tables).then(|| flip_row(&case))
+}
+
+/// Refused for that alone.
+fn naming_a_pin(random: &mut Random) -> Option<String> {
+    let case = flip_case(&LIMITS, random);
+    let (told, _) = flipped(&case);
+    (told.reason == PINNED_TERM).then(|| flip_row(&case))
+}
+
+fn flipped(case: &FlipCase) -> Done {
     let mut after = case.tables.clone();
     let told = flip(&LIMITS, &case.list, case.counts, &mut after);
-    Some(format!(
-        "(flipping {} {} {}) tells {}",
-        list(&case.list),
-        counts(&case.counts),
-        tables(&case.tables),
-        seen([told.result, told.reason, 0, 0, 0], &told.counts, &after),
-    ))
+    (told, after)
+}
+
+fn flip_row(case: &FlipCase) -> String {
+    let asked = format!("flipping {}", list(&case.list));
+    on_a_file(&asked, &case.counts, &case.tables, flipped(case))
+}
+
+fn pinning(random: &mut Random) -> Option<String> {
+    Some(pin_row(&pin_case(&LIMITS, random)))
+}
+
+/// The term has the other value.
+fn pinning_with_a_flip(random: &mut Random) -> Option<String> {
+    let case = pin_case(&LIMITS, random);
+    let (_, after) = pinned(&case);
+    (after.values != case.tables.values).then(|| pin_row(&case))
+}
+
+fn pinned(case: &PinCase) -> Done {
+    let mut after = case.tables.clone();
+    let told = pin(&LIMITS, case.term, case.value, case.counts, &mut after);
+    (told, after)
+}
+
+fn pin_row(case: &PinCase) -> String {
+    let asked = format!("pinning {} {}", case.term, case.value);
+    on_a_file(&asked, &case.counts, &case.tables, pinned(case))
+}
+
+fn lifting(random: &mut Random) -> Option<String> {
+    Some(lift_row(&pin_case(&LIMITS, random)))
+}
+
+/// The term is pinned.
+fn lifting_a_pin(random: &mut Random) -> Option<String> {
+    let case = pin_case(&LIMITS, random);
+    let (_, after) = lifted(&case);
+    (after != case.tables).then(|| lift_row(&case))
+}
+
+fn lifted(case: &PinCase) -> Done {
+    let mut after = case.tables.clone();
+    let told = lift(&LIMITS, case.term, case.counts, &mut after);
+    (told, after)
+}
+
+fn lift_row(case: &PinCase) -> String {
+    let asked = format!("lifting {}", case.term);
+    on_a_file(&asked, &case.counts, &case.tables, lifted(case))
+}
+
+/// A call that answers as a flip list does.
+fn on_a_file(asked: &str, given: &Counts, before: &Tables, (told, after): Done) -> String {
+    let numbers = [told.result, told.reason, 0, 0, 0];
+    format!(
+        "({asked} {} {}) tells {}",
+        counts(given),
+        tables(before),
+        seen(numbers, &told.counts, &after),
+    )
 }
 
 fn running(random: &mut Random) -> Option<String> {
-    let case = run_case(&LIMITS, random);
+    let mut case = run_case(&LIMITS, random);
     if case.input.len() > LIMITS.text + 1 || walks_long(&case.input) {
         return None;
     }
+    lend_marks(&mut case.tables, random);
     let (mut after, mut out) = (case.tables.clone(), case.out.clone());
     let told = run_on(&LIMITS, &case.input, &mut after, &mut out);
     Some(format!(
@@ -117,6 +252,69 @@ fn running(random: &mut Random) -> Option<String> {
         tables(&after),
         list(&out),
     ))
+}
+
+/// A call on tables that agree but for their marks.
+fn on_damaged_marks(random: &mut Random) -> Option<String> {
+    let (mut counts, mut tables) = pinned_tables(&LIMITS, random);
+    let kind = random.pick(&MARKS);
+    damage_of(kind, &LIMITS, &mut counts, &mut tables, random);
+    let hold = agree(&LIMITS, &counts, &tables);
+    any_row(counts, tables, random).filter(|_| !hold)
+}
+
+/// A call with marks that are shorter than their full size.
+fn on_short_marks(random: &mut Random) -> Option<String> {
+    let (counts, mut tables) = pinned_tables(&LIMITS, random);
+    shorten_marks(&mut tables, random);
+    any_row(counts, tables, random)
+}
+
+/// The marks become too short, stay, or stand as a call may have left them.
+fn lend_marks(tables: &mut Tables, random: &mut Random) {
+    match random.below(10) {
+        0 => shorten_marks(tables, random),
+        1..=3 => {}
+        _ => tables.marks.fill_with(|| random.bits() % 3),
+    }
+}
+
+fn shorten_marks(tables: &mut Tables, random: &mut Random) {
+    let length = random.below(LIMITS.terms);
+    tables.marks.truncate(length);
+}
+
+/// An order, a list, a pin or a lift.
+fn any_row(counts: Counts, tables: Tables, random: &mut Random) -> Option<String> {
+    let (term, value) = pin_of_some_term(counts.terms, random);
+    let (order, list) = (order_in_range(random), vec![term]);
+    let row = random.pick(&[pin_row, lift_row]);
+    match random.below(3) {
+        0 => walk_row(&WalkCase {
+            order,
+            counts,
+            tables,
+        }),
+        1 => Some(flip_row(&FlipCase {
+            list,
+            counts,
+            tables,
+        })),
+        _ => Some(row(&PinCase {
+            term,
+            value,
+            counts,
+            tables,
+        })),
+    }
+}
+
+/// Whether tables agree and have a pinned term.
+fn holds_a_pin(counts: &Counts, tables: &Tables) -> bool {
+    agree(&LIMITS, counts, tables)
+        && tables.marks[..LIMITS.terms]
+            .iter()
+            .any(|mark| *mark != FREE)
 }
 
 /// Choices in both modes and heads, each asked for alone.
@@ -184,8 +382,11 @@ fn counts(counts: &Counts) -> String {
     format!("(counts {})", spaced(&counts.all()))
 }
 
+/// The ten tables, and the marks beside them.
 fn tables(tables: &Tables) -> String {
-    format!("(lent {})", spaced(&tables.all().map(|table| list(table))))
+    let lists = tables.all().map(|table| list(table));
+    let (marks, ten) = lists.split_last().expect("there are eleven");
+    format!("(lent {}) {marks}", spaced(ten))
 }
 
 fn spaced(words: &[impl ToString]) -> String {

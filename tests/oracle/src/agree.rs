@@ -1,10 +1,11 @@
-//! The judgement of reason 12, phrase by phrase as "Tables agree if" has it.
+//! The judgement of reason 12, phrase by phrase as "Tables agree if" has it, and as document 02 adds to it.
 
 use std::collections::HashSet;
 
 use crate::limits::{Limits, TERMS_IN_A_WORD};
+use crate::marks::{mark_of, FREE};
 use crate::reader::{is_name_byte, pack, unpack};
-use crate::state::{as_entries, clauses_of, running_starts, term_of, State};
+use crate::state::{as_entries, clauses_of, running_starts, term_of, values_of, State};
 use crate::tables::{Counts, Tables};
 
 /// Whether the tables agree; each test may rely on those before it, so no index goes out.
@@ -17,6 +18,7 @@ pub fn agree(limits: &Limits, counts: &Counts, tables: &Tables) -> bool {
         && literals_are_sound(counts, tables)
         && numbers_are_those_of_the_values(counts, tables)
         && the_rest_is_zero(limits, counts, tables)
+        && each_mark_holds(counts, tables)
 }
 
 /// "names are valid and differ"
@@ -101,6 +103,13 @@ fn the_rest_is_zero(limits: &Limits, counts: &Counts, tables: &Tables) -> bool {
     let mut tables_and_ends = tables.all().into_iter().zip(ends);
     tables_and_ends.all(|(table, (used, full))| table[used..full].iter().all(|entry| *entry == 0))
         && spare_value_bits_are_zero(counts, tables)
+}
+
+/// "Tables agree only if marks are 0 to 2 and each pinned value is as marked": a term is free or marked with the value it has.
+fn each_mark_holds(counts: &Counts, tables: &Tables) -> bool {
+    let values = values_of(counts, tables);
+    let mut terms = tables.marks.iter().zip(values);
+    terms.all(|(mark, value)| [FREE, mark_of(Some(value))].contains(mark))
 }
 
 /// The bits past the last term, and past the 32 of a word.

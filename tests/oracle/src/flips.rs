@@ -2,7 +2,10 @@
 
 use crate::agree::agree;
 use crate::limits::Limits;
-use crate::reasons::{LIST_TOO_LONG, NONE, TABLES_DISAGREE, TABLE_TOO_SHORT, UNKNOWN_TERM};
+use crate::marks::FREE;
+use crate::reasons::{
+    LIST_TOO_LONG, NONE, PINNED_TERM, TABLES_DISAGREE, TABLE_TOO_SHORT, UNKNOWN_TERM,
+};
 use crate::state::State;
 use crate::tables::{Counts, Tables};
 
@@ -14,14 +17,29 @@ pub struct FlipAnswer {
     pub counts: Counts,
 }
 
-/// "does step 5 for each named term, in order, from the values that stand"
-pub fn flip(limits: &Limits, list: &[u64], counts: Counts, tables: &mut Tables) -> FlipAnswer {
-    if let Some(reason) = reason_against(limits, list, &counts, tables) {
-        return FlipAnswer {
+impl FlipAnswer {
+    pub fn applied(counts: Counts) -> FlipAnswer {
+        FlipAnswer {
+            result: 1,
+            reason: NONE,
+            counts,
+        }
+    }
+
+    /// "A refused walk or flip list returns the counts it was given".
+    pub fn refused(reason: u64, counts: Counts) -> FlipAnswer {
+        FlipAnswer {
             result: 0,
             reason,
             counts,
-        };
+        }
+    }
+}
+
+/// "does step 5 for each named term, in order, from the values that stand"
+pub fn flip(limits: &Limits, list: &[u64], counts: Counts, tables: &mut Tables) -> FlipAnswer {
+    if let Some(reason) = reason_against(limits, list, &counts, tables) {
+        return FlipAnswer::refused(reason, counts);
     }
     let mut state = State::standing(&counts, tables);
     let occurrences = state.occurrences();
@@ -29,14 +47,10 @@ pub fn flip(limits: &Limits, list: &[u64], counts: Counts, tables: &mut Tables) 
         state.flip(*term as usize, &occurrences);
     }
     tables.write_over(limits, &state.lay_out(limits));
-    FlipAnswer {
-        result: 1,
-        reason: NONE,
-        counts: state.counts(),
-    }
+    FlipAnswer::applied(state.counts())
 }
 
-/// "A flip list tests 1, 14, 12, 13."
+/// "A flip list tests 1, 14, 12, 13", and "20, a flip list names a pinned term, after 13".
 fn reason_against(limits: &Limits, list: &[u64], counts: &Counts, tables: &Tables) -> Option<u64> {
     if !tables.reach_full_size(limits) {
         Some(TABLE_TOO_SHORT)
@@ -46,6 +60,8 @@ fn reason_against(limits: &Limits, list: &[u64], counts: &Counts, tables: &Table
         Some(TABLES_DISAGREE)
     } else if list.iter().any(|term| *term >= counts.terms) {
         Some(UNKNOWN_TERM)
+    } else if list.iter().any(|term| tables.marks[*term as usize] != FREE) {
+        Some(PINNED_TERM)
     } else {
         None
     }

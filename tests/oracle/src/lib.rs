@@ -2,11 +2,15 @@
 //! Every count is worked out afresh from the clauses and values; none is carried along.
 
 pub mod agree;
+pub mod calls;
 pub mod draw;
 pub mod flips;
 pub mod generate;
 pub mod limits;
+pub mod marks;
 pub mod order;
+pub mod pin_rows;
+pub mod pins;
 pub mod program;
 pub mod reader;
 pub mod reading;

@@ -1,7 +1,10 @@
-//! The limits, and the full sizes of the ten tables that follow from them.
+//! The limits, and the full sizes of the lent tables that follow from them.
 
 /// "values, 32 terms to a word".
 pub const TERMS_IN_A_WORD: usize = 32;
+
+/// Document 01's ten tables, and the marks of document 02.
+pub const TABLES: usize = 11;
 
 /// The most that may be held; no other place writes these numbers.
 #[derive(Clone, Copy, Debug, PartialEq, Eq)]
@@ -25,8 +28,8 @@ impl Limits {
         list: 65_536,
     };
 
-    /// The column "full size" of document 01, in its order.
-    pub fn full_sizes(&self) -> [usize; 10] {
+    /// The column "full size" of document 01, in its order, then that of the marks.
+    pub fn full_sizes(&self) -> [usize; TABLES] {
         [
             self.terms,
             words_for(self.terms),
@@ -38,15 +41,17 @@ impl Limits {
             self.terms,
             self.clauses,
             self.clauses,
+            self.terms,
         ]
     }
 
-    /// The column "bits" of document 01, in its order.
-    pub fn entry_bits(&self) -> [u32; 10] {
+    /// The column "bits" of document 01, in its order, then those of a mark.
+    pub fn entry_bits(&self) -> [u32; TABLES] {
         let number = self.number_bits();
-        let mut bits = [number; 10];
+        let mut bits = [number; TABLES];
         bits[0] = 64;
         bits[1] = 32;
+        bits[TABLES - 1] = 8;
         bits
     }
 

@@ -52,7 +52,7 @@ fn refused(fault: Fault) -> ReadAnswer {
     }
 }
 
-/// The state that an accepted reading leaves: every value 0, the uncovered list rising.
+/// The state that an accepted reading leaves: every value 0, the uncovered list rising, no term pinned.
 pub fn read_state(limits: &Limits, text: &[u8]) -> Result<State, Fault> {
     if text.len() > limits.text {
         return Err(Fault::without_line(TEXT_TOO_LONG));
@@ -169,12 +169,13 @@ impl<'a> Clauses<'a> {
     }
 
     fn into_state(self) -> State {
-        let values = vec![false; self.names.len()];
+        let (values, pins) = (vec![false; self.names.len()], vec![None; self.names.len()]);
         let mut state = State {
             names: self.names,
             clauses: self.kept,
             values,
             uncovered: Vec::new(),
+            pins,
         };
         state.uncovered = state.uncovered_rising();
         state

@@ -16,6 +16,7 @@ pub const TABLES_DISAGREE: u64 = 12;
 pub const UNKNOWN_TERM: u64 = 13;
 pub const LIST_TOO_LONG: u64 = 14;
 pub const BLANK_LINE: u64 = 15;
+pub const PINNED_TERM: u64 = 20;
 
 /// A refusal: its reason, and the line of the fault or 0.
 #[derive(Clone, Copy, Debug, PartialEq, Eq)]

@@ -1,6 +1,7 @@
-//! A plain state of clauses and values, and how it lies in the ten tables.
+//! A plain state of clauses, values and pins, and how it lies in the lent tables.
 
 use crate::limits::{words_for, Limits, TERMS_IN_A_WORD};
+use crate::marks::{mark_of, pin_of};
 use crate::tables::{Counts, Tables};
 
 /// The clauses of each literal, rising.
@@ -16,6 +17,8 @@ pub struct State {
     pub values: Vec<bool>,
     /// The uncovered clauses in the order of the list.
     pub uncovered: Vec<usize>,
+    /// The value that each term is pinned at; none where it is free.
+    pub pins: Vec<Option<bool>>,
 }
 
 pub fn term_of(literal: usize) -> usize {
@@ -105,6 +108,7 @@ impl State {
             clauses: clauses_of(counts, tables),
             values: values_of(counts, tables),
             uncovered: as_indexes(&tables.uncovered[..counts.uncovered as usize]),
+            pins: pins_of(counts, tables),
         }
     }
 
@@ -122,6 +126,7 @@ impl State {
             breaks: self.each_break_count(&occurrences),
             uncovered: as_entries(&self.uncovered),
             places: self.each_place(),
+            marks: self.pins.iter().map(|pin| mark_of(*pin)).collect(),
         };
         for (table, size) in tables.all_mut().into_iter().zip(limits.full_sizes()) {
             table.resize(size, 0);
@@ -175,6 +180,12 @@ pub fn values_of(counts: &Counts, tables: &Tables) -> Vec<bool> {
     (0..counts.terms as usize)
         .map(|term| bit(term) == 1)
         .collect()
+}
+
+/// The pins that tables hold.
+fn pins_of(counts: &Counts, tables: &Tables) -> Vec<Option<bool>> {
+    let marks = &tables.marks[..counts.terms as usize];
+    marks.iter().map(|mark| pin_of(*mark)).collect()
 }
 
 /// Where each run begins in the joined runs, "one past the last included".

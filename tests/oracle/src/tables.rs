@@ -1,8 +1,8 @@
-//! The ten lent tables and the four counts that go beside them.
+//! The lent tables and the four counts that go beside them.
 
-use crate::limits::{words_for, Limits};
+use crate::limits::{words_for, Limits, TABLES};
 
-/// The ten tables in document 01's order; each may have any length.
+/// The ten tables in document 01's order, and the marks; each may have any length.
 #[derive(Clone, Debug, Default, PartialEq, Eq)]
 pub struct Tables {
     pub names: Vec<u64>,
@@ -15,6 +15,8 @@ pub struct Tables {
     pub breaks: Vec<u64>,
     pub uncovered: Vec<u64>,
     pub places: Vec<u64>,
+    /// "An eleventh lent table of 2,048 bytes marks terms".
+    pub marks: Vec<u64>,
 }
 
 /// "Beside them go four counts by value: terms, clauses, literals, uncovered."
@@ -36,7 +38,7 @@ impl Tables {
         tables
     }
 
-    pub fn all(&self) -> [&Vec<u64>; 10] {
+    pub fn all(&self) -> [&Vec<u64>; TABLES] {
         [
             &self.names,
             &self.values,
@@ -48,10 +50,11 @@ impl Tables {
             &self.breaks,
             &self.uncovered,
             &self.places,
+            &self.marks,
         ]
     }
 
-    pub fn all_mut(&mut self) -> [&mut Vec<u64>; 10] {
+    pub fn all_mut(&mut self) -> [&mut Vec<u64>; TABLES] {
         [
             &mut self.names,
             &mut self.values,
@@ -63,6 +66,7 @@ impl Tables {
             &mut self.breaks,
             &mut self.uncovered,
             &mut self.places,
+            &mut self.marks,
         ]
     }
 
@@ -111,7 +115,7 @@ impl Counts {
     }
 
     /// How many entries of each table are in use; the counts must be within their limits.
-    pub fn in_use(&self) -> [usize; 10] {
+    pub fn in_use(&self) -> [usize; TABLES] {
         let (terms, clauses) = (self.terms as usize, self.clauses as usize);
         let (literals, uncovered) = (self.literals as usize, self.uncovered as usize);
         [
@@ -125,6 +129,7 @@ impl Counts {
             terms,
             uncovered,
             clauses,
+            terms,
         ]
     }
 

@@ -20,11 +20,29 @@ pub struct WalkAnswer {
     pub counts: Counts,
 }
 
+/// What a test can be told of a walk.
+#[derive(Clone, Copy, Debug, PartialEq, Eq)]
+pub enum Event {
+    Flip(Step),
+    End(End),
+}
+
+/// How one walk ends; found is the run's end too.
+#[derive(Clone, Copy, Debug, PartialEq, Eq, PartialOrd, Ord)]
+pub enum End {
+    Found,
+    FlipsMade,
+    /// The chosen clause has no literal of a free term.
+    Stuck,
+}
+
 /// What one flip was chosen among, and what was chosen.
 #[derive(Clone, Copy, Debug, PartialEq, Eq)]
 pub struct Step {
     pub uncovered: usize,
-    /// The literals of the clause, the least break count among them, and how many have it.
+    /// The literals of the clause whose terms are pinned: none of them can be picked.
+    pub pinned: usize,
+    /// Its other literals, the least break count among them, and how many have it.
     pub literals: usize,
     pub least: usize,
     pub at_least: usize,
@@ -40,13 +58,13 @@ pub fn walk(limits: &Limits, order: &Order, counts: Counts, tables: &mut Tables)
     walk_telling(limits, order, counts, tables, &mut |_| {})
 }
 
-/// The same; each step is told, so that a test can count what it meets.
+/// The same; each flip and each walk's end is told, so that a test can count what it meets.
 pub fn walk_telling(
     limits: &Limits,
     order: &Order,
     counts: Counts,
     tables: &mut Tables,
-    tell: &mut dyn FnMut(Step),
+    tell: &mut dyn FnMut(Event),
 ) -> WalkAnswer {
     if let Some(reason) = reason_against(limits, order, &counts, tables) {
         return WalkAnswer {
@@ -89,11 +107,11 @@ struct Walker<'a> {
     generator: Generator,
     walks: u64,
     flips: u64,
-    tell: &'a mut dyn FnMut(Step),
+    tell: &'a mut dyn FnMut(Event),
 }
 
 impl<'a> Walker<'a> {
-    fn new(order: &'a Order, state: State, tell: &'a mut dyn FnMut(Step)) -> Walker<'a> {
+    fn new(order: &'a Order, state: State, tell: &'a mut dyn FnMut(Event)) -> Walker<'a> {
         let occurrences = state.occurrences();
         let generator = Generator {
             state: order.seed as u32,
@@ -112,37 +130,46 @@ impl<'a> Walker<'a> {
     /// "next walk from 1, or give up if it was the last. The generator is not seeded again."
     fn walk_until_found_or_spent(&mut self) -> bool {
         while self.walks < self.order.walks {
-            if self.walk_once() {
+            let end = self.walk_once();
+            (self.tell)(Event::End(end));
+            if end == End::Found {
                 return true;
             }
         }
         false
     }
 
-    /// Steps 1 to 5; found is tested before the flips are.
-    fn walk_once(&mut self) -> bool {
+    /// Steps 1 to 5; found is tested before the flips are. "if the chosen clause has none, the walk ends": step 3 is made by then.
+    fn walk_once(&mut self) -> End {
         self.walks += 1;
         self.start();
         let mut flips_of_this_walk = 0;
         while !self.state.uncovered.is_empty() {
             if flips_of_this_walk == self.order.flips {
-                return false;
+                return End::FlipsMade;
             }
             let clause = self.choose_clause();
-            let literal = self.choose_literal(clause);
+            let free = self.free_literals(clause);
+            if free.is_empty() {
+                return End::Stuck;
+            }
+            let literal = self.choose_literal(clause, &free);
             self.state.flip(term_of(literal), &self.occurrences);
             flips_of_this_walk += 1;
             self.flips += 1;
         }
-        true
+        End::Found
     }
 
-    /// Step 1: "for every 32 terms, or the part of 32 at the end, one draw gives their values".
+    /// Step 1: "for every 32 terms, or the part of 32 at the end, one draw gives their values", and "A start gives a pinned term its value
+    /// in place of the drawn bit (the bit is still drawn)".
     fn start(&mut self) {
-        for word in self.state.values.chunks_mut(TERMS_IN_A_WORD) {
+        let pins = self.state.pins.chunks(TERMS_IN_A_WORD);
+        let words = self.state.values.chunks_mut(TERMS_IN_A_WORD).zip(pins);
+        for (word, pins) in words {
             let draw = self.generator.draw();
-            for (bit, value) in word.iter_mut().enumerate() {
-                *value = draw >> bit & 1 == 1;
+            for (bit, (value, pin)) in word.iter_mut().zip(pins).enumerate() {
+                *value = pin.unwrap_or(draw >> bit & 1 == 1);
             }
         }
         self.state.uncovered = self.state.uncovered_rising();
@@ -154,27 +181,34 @@ impl<'a> Walker<'a> {
         self.state.uncovered[slot]
     }
 
-    /// Step 4; the literals stay in reading order throughout.
-    fn choose_literal(&mut self, clause: usize) -> usize {
-        let literals = self.state.clauses[clause].clone();
-        let least = self.least_break_count(&literals);
-        let mut at_least = literals.clone();
+    /// "Step 4 of the walk looks only at literals of free terms"; they stay in reading order.
+    fn free_literals(&self, clause: usize) -> Vec<usize> {
+        let mut literals = self.state.clauses[clause].clone();
+        literals.retain(|literal| self.state.pins[term_of(*literal)].is_none());
+        literals
+    }
+
+    /// Step 4, among these literals of the clause.
+    fn choose_literal(&mut self, clause: usize, literals: &[usize]) -> usize {
+        let least = self.least_break_count(literals);
+        let mut at_least = literals.to_vec();
         at_least.retain(|literal| self.break_count(*literal) == least);
         let heads = (least > 0).then(|| self.generator.heads(self.order.bias));
         let literal = match at_least[..] {
-            _ if heads == Some(true) => self.choose_among(&literals),
+            _ if heads == Some(true) => self.choose_among(literals),
             [only] => only,
             _ => self.choose_among(&at_least),
         };
-        (self.tell)(Step {
+        (self.tell)(Event::Flip(Step {
             uncovered: self.state.uncovered.len(),
+            pinned: self.state.clauses[clause].len() - literals.len(),
             literals: literals.len(),
             least,
             at_least: at_least.len(),
             heads,
             literal,
             state: self.generator.state,
-        });
+        }));
         literal
     }
 

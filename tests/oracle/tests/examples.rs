@@ -140,12 +140,12 @@ fn the_limits_are_those_of_the_document() {
 #[test]
 fn the_full_sizes_and_bits_are_those_of_the_document() {
     let sizes = [
-        2_048, 64, 8_193, 16_384, 4_097, 16_384, 8_192, 2_048, 8_192, 8_192,
+        2_048, 64, 8_193, 16_384, 4_097, 16_384, 8_192, 2_048, 8_192, 8_192, 2_048,
     ];
     assert_eq!(NARROW.full_sizes(), sizes);
     assert_eq!(
         NARROW.entry_bits(),
-        [64, 32, 16, 16, 16, 16, 16, 16, 16, 16]
+        [64, 32, 16, 16, 16, 16, 16, 16, 16, 16, 8]
     );
 }
 

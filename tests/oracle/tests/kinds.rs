@@ -246,6 +246,26 @@ fn each_kind_of_lent_tables_does_what_it_says() {
 }
 
 #[test]
+fn each_kind_of_pinned_tables_does_what_it_says() {
+    use PinKind::*;
+    for seed in 0..100 {
+        for kind in PinKind::ALL {
+            let (counts, tables) = pinned_tables_of(kind, &SMALL, &mut Random::new(seed));
+            assert!(agree(&SMALL, &counts, &tables), "{kind:?}");
+            let pinned = tables.marks.iter().filter(|mark| **mark > 0).count() as u64;
+            match kind {
+                NoTerm => assert_eq!(pinned, 0),
+                OneTerm => assert_eq!(pinned, 1),
+                FewTerms => assert!(pinned <= 9 && pinned >= counts.terms.min(2)),
+                AnyNumber => assert!(pinned <= counts.terms),
+                AllButOne => assert_eq!(pinned, counts.terms - 1),
+                EveryTerm => assert_eq!(pinned, counts.terms),
+            }
+        }
+    }
+}
+
+#[test]
 fn each_kind_of_damage_does_what_it_says() {
     use DamageKind::*;
     let mut verdicts: BTreeMap<DamageKind, BTreeSet<bool>> = BTreeMap::new();
@@ -276,10 +296,12 @@ fn assert_verdict(kind: DamageKind, agrees: bool, unchanged: bool) {
     match kind {
         None | NameOther | ListReordered | Longer => assert!(agrees, "{kind:?}"),
         OneShorter => assert!(!agrees, "{kind:?}"),
-        ClauseEmpty | NoClause => assert!(!agrees, "{kind:?}"),
+        ClauseEmpty | NoClause | MarkPast2 | PinnedAtTheOtherValue => {
+            assert!(!agrees, "{kind:?}")
+        }
         EntryPastUse | SpareValueBit | Count | NameRepeated | NameInvalid | ListReorderedAlone
         | TermTwice | TermBothWays | OccurrencesFalling | UncoveredLeftOut | CoveredListed
-        | ListedTwice | AllZeros | Rubbish | SmallNumbers => {
+        | ListedTwice | MarkPastTheTerms | AllZeros | Rubbish | SmallNumbers => {
             assert_eq!(agrees, unchanged, "{kind:?}");
         }
         EntryInUse | EntryByOne | EntriesSwapped | ValueTurned => assert!(agrees || !unchanged),

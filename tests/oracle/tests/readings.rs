@@ -6,7 +6,10 @@ use common::*;
 use oracle::agree::agree;
 use oracle::draw::{choice, choice_even, draw, draws_from, heads};
 use oracle::flips::flip;
+use oracle::limits::TABLES;
+use oracle::pins::{lift, pin};
 use oracle::reader::{pack, Reader, Told};
+use oracle::reading::read;
 use oracle::sheet::read_sheet;
 use oracle::walk::walk;
 use oracle::{run, run_on, Order, Tables};
@@ -275,28 +278,30 @@ fn point_16_which_draws_a_flip_takes() {
     ];
     for (clauses, bias, draws) in cases {
         assert_eq!(
-            draws_of_the_first_flip(clauses, bias),
+            draws_of_the_first_walk(clauses, bias, &[]),
             draws,
             "{clauses} {bias}"
         );
     }
 }
 
-/// Terms 5 to 31 stand in no clause, so their values tell which draw began the second walk.
-fn draws_of_the_first_flip(clauses: &str, bias: u64) -> usize {
+/// The draws after the start in a walk of one flip, with these terms pinned at 0. Terms 5 to 31 stand in no clause, so their values tell
+/// which draw began the second walk.
+fn draws_of_the_first_walk(clauses: &str, bias: u64, pinned: &[u64]) -> usize {
     let known: Vec<String> = (0..32).map(|term| format!("t{term}")).collect();
-    let text = format!("{} ~\n{clauses}", known.join(" "));
-    let (answer, tables) = walked(
-        &text,
-        &Order {
-            seed: 1,
-            flips: 1,
-            walks: 2,
-            bias,
-            even: 0,
-        },
-    );
-    assert_eq!((answer.walks, tables.values[1]), (2, 0));
+    let (counts, mut tables) = accepted(format!("{} ~\n{clauses}", known.join(" ")));
+    for term in pinned {
+        let answer = pin(&NARROW, *term, 0, counts, &mut tables);
+        assert_eq!((answer.reason, answer.counts), (0, counts));
+    }
+    let order = Order {
+        flips: 1,
+        walks: 2,
+        bias,
+        ..ORDER
+    };
+    let answer = walk(&NARROW, &order, counts, &mut tables);
+    assert_eq!((answer.reason, answer.walks, tables.values[1]), (0, 2, 0));
     let begins = |draw: u32| u64::from(draw) >> 5 == tables.values[0] >> 5;
     let second_start = draws_from(1)
         .take(20)
@@ -381,7 +386,7 @@ fn point_22_any_counts_and_starts_are_12() {
             let mut lent = tables.clone();
             assert_eq!(walk(&NARROW, &ORDER, changed, &mut lent).reason, 12);
         }
-        for table in 2..10 {
+        for table in 2..TABLES {
             let mut lent = tables.clone();
             lent.all_mut()[table][1] = wild;
             assert_eq!(walk(&NARROW, &ORDER, counts, &mut lent).reason, 12);
@@ -492,7 +497,7 @@ fn point_30_the_result_line_decides() {
     assert!(lines.ends_with("chosen=0\nanswer=~?\n"));
 }
 
-/// Ten tables and an output, all of full size and not 0.
+/// Tables and an output, all of full size and not 0.
 fn lent_to_a_run() -> (Tables, Vec<u8>) {
     (full_of(&NARROW, 7), vec![b'-'; NARROW.output_size()])
 }
@@ -507,11 +512,11 @@ fn run_over((mut tables, mut out): (Tables, Vec<u8>)) -> ([u64; 3], (Tables, Vec
 
 #[test]
 fn point_31_a_short_table_and_a_short_output_are_reason_1() {
-    let mut short = vec![lent_to_a_run(); 11];
-    for (table, (tables, _)) in short[..10].iter_mut().enumerate() {
+    let mut short = vec![lent_to_a_run(); TABLES + 1];
+    for (table, (tables, _)) in short[..TABLES].iter_mut().enumerate() {
         tables.all_mut()[table].pop();
     }
-    short[10].1.pop();
+    short[TABLES].1.pop();
     for lent in short {
         assert!(run_over(lent.clone()) == ([0, 1, 0], lent));
     }
@@ -602,4 +607,144 @@ fn point_35_a_list_given_twice_brings_back_the_set_and_not_the_order() {
     let broken = tables.clone();
     assert_eq!(flip(&NARROW, &[], counts, &mut tables).reason, 12);
     assert!(tables == broken);
+}
+
+#[test]
+fn point_36_which_draws_are_made_among_free_literals() {
+    // From seed 1 terms 1 to 4 start at 0, as they are pinned.
+    let ties = "t1 t2\nt3 t4\n";
+    let broken = "t1 t2\nt3 t4\n~t1\n~t3\n";
+    let cases: [(&str, u64, &[u64], usize); 10] = [
+        (ties, 0, &[], 2),
+        (ties, 0, &[1, 3], 1),
+        (ties, 1000, &[2, 4], 1),
+        (ties, 0, &[1, 2, 3, 4], 1),
+        ("t1\nt2\n", 1000, &[1, 2], 1),
+        (broken, 0, &[], 1),
+        (broken, 0, &[1, 3], 1),
+        (broken, 0, &[2, 4], 2),
+        (broken, 1000, &[2, 4], 3),
+        (broken, 1000, &[1, 2, 3, 4], 1),
+    ];
+    for (clauses, bias, pinned, draws) in cases {
+        let made = draws_of_the_first_walk(clauses, bias, pinned);
+        assert_eq!(made, draws, "{clauses} {bias} {pinned:?}");
+    }
+}
+
+/// From seed 2 a starts at 0, so `a b` may be chosen and a flipped, but no value of a covers `b`.
+#[test]
+fn point_36_flips_made_before_a_walk_sticks_count() {
+    let (counts, read) = accepted("a b\n~a b\nb\n");
+    let mut tables = read.clone();
+    pin(&NARROW, 1, 0, counts, &mut tables);
+    let order = Order {
+        seed: 2,
+        flips: 20,
+        walks: 2,
+        bias: 500,
+        ..ORDER
+    };
+    let answer = walk(&NARROW, &order, counts, &mut tables);
+    assert_eq!(ended(answer), [2, 2, 1]);
+    assert_eq!(
+        (tables.values[0], &tables.uncovered[..3]),
+        (0, &[0, 2, 0][..])
+    );
+}
+
+#[test]
+fn point_36_20_is_looked_for_after_13_over_the_whole_list() {
+    let (counts, mut tables) = accepted("a b\n~a b\nc d\n");
+    pin(&NARROW, 1, 0, counts, &mut tables);
+    let before = tables.clone();
+    let longest = vec![1; NARROW.list];
+    let too_long = vec![1; NARROW.list + 1];
+    let lists: [(&[u64], u64); 8] = [
+        (&[1, 9], 13),
+        (&[9, 1], 13),
+        (&[0, 4], 13),
+        (&[0, 1], 20),
+        (&[1, 1], 20),
+        (&[1], 20),
+        (&longest, 20),
+        (&too_long, 14),
+    ];
+    for (list, reason) in lists {
+        let answer = flip(&NARROW, list, counts, &mut tables);
+        assert_eq!(
+            (answer.result, answer.reason, answer.counts),
+            (0, reason, counts)
+        );
+        assert!(tables == before);
+    }
+    assert_eq!(flip(&NARROW, &[0, 2, 3], counts, &mut tables).reason, 0);
+}
+
+#[test]
+fn point_36_a_term_may_be_pinned_again_and_a_free_one_lifted() {
+    let (counts, mut tables) = accepted("a b\n~a b\nc d\n");
+    let at_0 = pin(&NARROW, 1, 0, counts, &mut tables);
+    assert_eq!((at_0.reason, at_0.counts, tables.marks[1]), (0, counts, 1));
+    let at_1 = pin(&NARROW, 1, 1, at_0.counts, &mut tables);
+    assert_eq!((at_1.reason, at_1.counts.uncovered), (0, 1));
+    assert_eq!((tables.values[0], tables.marks[1]), (2, 2));
+    let before = tables.clone();
+    let again = pin(&NARROW, 1, 1, at_1.counts, &mut tables);
+    let free = lift(&NARROW, 0, at_1.counts, &mut tables);
+    assert_eq!((again, free), (at_1, at_1));
+    assert!(tables == before);
+}
+
+#[test]
+fn point_36_reason_1_and_tables_0_take_in_the_marks() {
+    let (counts, mut tables) = accepted("a b\n");
+    assert!(tables.marks.iter().all(|mark| *mark == 0));
+    tables.marks.pop();
+    let short = tables.clone();
+    let reasons = [
+        read(&NARROW, b"", &mut tables).reason,
+        walk(&NARROW, &Order { seed: 0, ..ORDER }, counts, &mut tables).reason,
+        flip(&NARROW, &[9], counts, &mut tables).reason,
+        pin(&NARROW, 9, 0, counts, &mut tables).reason,
+        lift(&NARROW, 9, counts, &mut tables).reason,
+    ];
+    assert_eq!(reasons, [1; 5]);
+    assert!(tables == short);
+    for (input, left) in [
+        (GOOD_SHEET.to_owned() + "a\n", 0),
+        (GOOD_SHEET.to_owned() + "a", 0),
+        ("a".repeat(NARROW.text + 1), 0),
+        ("seed=0\n".to_owned(), 7),
+    ] {
+        let (mut tables, mut out) = lent_to_a_run();
+        run_on(&NARROW, input.as_bytes(), &mut tables, &mut out);
+        assert!(tables.marks.iter().all(|mark| *mark == left));
+    }
+}
+
+#[test]
+fn point_36_marks_past_the_terms_are_0_where_tables_agree() {
+    let (counts, tables) = accepted("a b\n");
+    for entry in [2, 3, NARROW.terms - 1] {
+        let mut lent = tables.clone();
+        lent.marks[entry] = 1;
+        assert!(!agree(&NARROW, &counts, &lent));
+    }
+    let mut longer = tables.clone();
+    longer.marks.push(9);
+    assert!(agree(&NARROW, &counts, &longer));
+}
+
+#[test]
+fn point_37_any_value_but_0_pins_at_1() {
+    let (counts, tables) = accepted("a b\n~a b\nc d\n");
+    let mut at_1 = tables.clone();
+    let expected = pin(&NARROW, 1, 1, counts, &mut at_1);
+    assert_eq!((at_1.marks[1], bit(&at_1, 1)), (2, 1));
+    for value in [2, 3, 255, 256, 1 << 16, 1 << 31, u64::from(u32::MAX)] {
+        let mut lent = tables.clone();
+        assert_eq!(pin(&NARROW, 1, value, counts, &mut lent), expected);
+        assert!(lent == at_1);
+    }
 }

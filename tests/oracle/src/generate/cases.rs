@@ -1,10 +1,11 @@
 //! Whole cases: everything that one call is given.
 
 use super::damage::damage;
-use super::flip_lists::flip_list;
+use super::flip_lists::{flip_list, without_pinned};
 use super::inputs::input_within;
 use super::lent::{lent_tables, standing_tables};
 use super::orders::order;
+use super::pinned::{pin_of_some_term, pinned_tables};
 use super::random::Random;
 use super::texts::clause_text_within;
 use crate::limits::Limits;
@@ -31,6 +32,15 @@ pub struct FlipCase {
     pub tables: Tables,
 }
 
+/// A term to pin at a value, or to lift.
+#[derive(Clone, Debug)]
+pub struct PinCase {
+    pub term: u64,
+    pub value: u64,
+    pub counts: Counts,
+    pub tables: Tables,
+}
+
 #[derive(Clone, Debug)]
 pub struct RunCase {
     pub input: Vec<u8>,
@@ -46,7 +56,7 @@ pub fn read_case(limits: &Limits, random: &mut Random) -> ReadCase {
 }
 
 pub fn walk_case(limits: &Limits, random: &mut Random) -> WalkCase {
-    let (mut counts, mut tables) = standing_tables(limits, random);
+    let (mut counts, mut tables) = agreeing_tables(limits, random);
     damage_half(limits, &mut counts, &mut tables, random);
     WalkCase {
         order: order(random),
@@ -55,13 +65,29 @@ pub fn walk_case(limits: &Limits, random: &mut Random) -> WalkCase {
     }
 }
 
-/// The list names terms that were known before any damage.
+/// The list names terms that were known before any damage, half of the time none that was pinned.
 pub fn flip_case(limits: &Limits, random: &mut Random) -> FlipCase {
-    let (mut counts, mut tables) = standing_tables(limits, random);
-    let list = flip_list(limits, counts.terms, random);
+    let (mut counts, mut tables) = agreeing_tables(limits, random);
+    let mut list = flip_list(limits, counts.terms, random);
+    if random.coin() {
+        list = without_pinned(list, &tables);
+    }
     damage_half(limits, &mut counts, &mut tables, random);
     FlipCase {
         list,
+        counts,
+        tables,
+    }
+}
+
+/// The term was mostly known before any damage.
+pub fn pin_case(limits: &Limits, random: &mut Random) -> PinCase {
+    let (mut counts, mut tables) = agreeing_tables(limits, random);
+    let (term, value) = pin_of_some_term(counts.terms, random);
+    damage_half(limits, &mut counts, &mut tables, random);
+    PinCase {
+        term,
+        value,
         counts,
         tables,
     }
@@ -75,6 +101,15 @@ pub fn run_case(limits: &Limits, random: &mut Random) -> RunCase {
     let size = random.pick(&[full, full, full, full + 1, full + 100, full, full, full - 1]);
     let out = (0..size).map(|_| random.byte()).collect();
     RunCase { input, tables, out }
+}
+
+/// Half of the cases have no pin.
+fn agreeing_tables(limits: &Limits, random: &mut Random) -> (Counts, Tables) {
+    if random.coin() {
+        standing_tables(limits, random)
+    } else {
+        pinned_tables(limits, random)
+    }
 }
 
 /// Half of the cases keep tables that agree.

@@ -2,6 +2,7 @@
 
 use super::lent::{fill_with_rubbish, lengthen, rubbish_entry, shorten};
 use super::names::name_of_length;
+use super::pinned;
 use super::random::Random;
 use super::unsound;
 use crate::kinds;
@@ -44,6 +45,9 @@ kinds! {
         CoveredListed,
         /// The list has one clause in the place of another too.
         ListedTwice,
+        MarkPast2,
+        PinnedAtTheOtherValue,
+        MarkPastTheTerms,
         AllZeros,
         Rubbish,
         SmallNumbers,
@@ -89,6 +93,9 @@ pub fn damage_of(
         DamageKind::UncoveredLeftOut => unsound::leave_out_uncovered(counts, tables),
         DamageKind::CoveredListed => unsound::list_covered(counts, tables, random),
         DamageKind::ListedTwice => unsound::list_twice(counts, tables, random),
+        DamageKind::MarkPast2 => pinned::mark_past_2(counts, tables, random),
+        DamageKind::PinnedAtTheOtherValue => pinned::pin_at_the_other_value(counts, tables, random),
+        DamageKind::MarkPastTheTerms => pinned::mark_past_the_terms(limits, counts, tables, random),
         DamageKind::AllZeros => tables.clear(limits),
         DamageKind::Rubbish => fill_with_rubbish(tables, limits, random),
         DamageKind::SmallNumbers => fill_with_small_numbers(tables, random),

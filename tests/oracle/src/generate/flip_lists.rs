@@ -3,6 +3,8 @@
 use super::random::Random;
 use crate::kinds;
 use crate::limits::Limits;
+use crate::marks::FREE;
+use crate::tables::Tables;
 
 kinds! {
     pub enum FlipListKind {
@@ -70,6 +72,13 @@ fn few(kind: FlipListKind, limits: &Limits, terms: u64, random: &mut Random) -> 
         FlipListKind::UnknownTerm => with_an_unknown_term(list, terms, random),
         _ => list,
     }
+}
+
+/// The same list without the terms that are pinned; unknown terms stay.
+pub fn without_pinned(mut list: Vec<u64>, tables: &Tables) -> Vec<u64> {
+    let mark = |term: &u64| tables.marks.get(*term as usize).copied();
+    list.retain(|term| mark(term).is_none_or(|mark| mark == FREE));
+    list
 }
 
 /// Where no term is known, 0 stands for one.

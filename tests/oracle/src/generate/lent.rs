@@ -4,7 +4,7 @@ use super::random::Random;
 use super::valid_texts::{valid_text_of, ValidKind};
 use crate::flips::flip;
 use crate::kinds;
-use crate::limits::Limits;
+use crate::limits::{Limits, TABLES};
 use crate::reading::read;
 use crate::tables::{Counts, Tables};
 
@@ -61,7 +61,7 @@ pub fn fill_with_rubbish(tables: &mut Tables, limits: &Limits, random: &mut Rand
 
 /// Puts rubbish beyond the full sizes of some tables.
 pub fn lengthen(tables: &mut Tables, limits: &Limits, random: &mut Random) {
-    let certain = random.below(10);
+    let certain = random.below(TABLES);
     let all = tables.all_mut().into_iter().zip(limits.entry_bits());
     for (index, (table, bits)) in all.enumerate() {
         if index == certain || random.coin() {
@@ -73,12 +73,12 @@ pub fn lengthen(tables: &mut Tables, limits: &Limits, random: &mut Random) {
 
 /// Takes one entry from one table.
 pub fn shorten(tables: &mut Tables, random: &mut Random) {
-    let index = random.below(10);
+    let index = random.below(TABLES);
     tables.all_mut()[index].pop();
 }
 
 fn empty_some(tables: &mut Tables, random: &mut Random) {
-    let certain = random.below(10);
+    let certain = random.below(TABLES);
     for (index, table) in tables.all_mut().into_iter().enumerate() {
         if index == certain || random.one_in(4) {
             table.clear();

@@ -1,6 +1,9 @@
 //! What the tests share.
 #![allow(dead_code)]
 
+use std::collections::BTreeSet;
+
+use oracle::agree::agree;
 use oracle::reading::{read, ReadAnswer};
 use oracle::walk::{walk, WalkAnswer};
 use oracle::{run, Counts, Limits, Order, Tables};
@@ -115,4 +118,67 @@ pub fn text_of_terms(count: usize) -> String {
         }
     };
     (0..count).map(|index| name(index) + end(index)).collect()
+}
+
+/// The four counts and the tables of a call.
+pub type Lent = (Counts, Tables);
+
+pub fn assert_excess_untouched(limits: &Limits, before: &Tables, after: &Tables) {
+    let pairs = before.all().into_iter().zip(after.all());
+    for ((old, new), size) in pairs.zip(limits.full_sizes()) {
+        assert_eq!(old.len(), new.len());
+        assert!(old.get(size..) == new.get(size..));
+    }
+}
+
+fn assert_same_clauses(before: &Tables, after: &Tables) {
+    assert!(before.names == after.names && before.marks == after.marks);
+    assert!(before.starts == after.starts && before.literals == after.literals);
+    assert!(before.occurrence_starts == after.occurrence_starts);
+    assert!(before.occurrences == after.occurrences);
+}
+
+pub fn bit(tables: &Tables, term: usize) -> u64 {
+    tables.values[term / 32] >> (term % 32) & 1
+}
+
+/// The true literals of a clause, straight from the tables.
+pub fn true_literals(tables: &Tables, clause: usize) -> Vec<usize> {
+    let run = tables.starts[clause] as usize..tables.starts[clause + 1] as usize;
+    let literals = tables.literals[run].iter().map(|literal| *literal as usize);
+    literals
+        .filter(|literal| bit(tables, literal / 2) != (literal % 2) as u64)
+        .collect()
+}
+
+/// Recounts everything from clauses and values, by another way than the library's.
+pub fn assert_counted_afresh(counts: &Counts, tables: &Tables) {
+    let mut breaks = vec![0; counts.terms as usize];
+    let mut uncovered = BTreeSet::new();
+    for clause in 0..counts.clauses as usize {
+        let standing = true_literals(tables, clause);
+        assert_eq!(tables.trues[clause], standing.len() as u64);
+        match standing[..] {
+            [] => drop(uncovered.insert(clause as u64)),
+            [only] => breaks[only / 2] += 1,
+            _ => {}
+        }
+    }
+    assert_eq!(tables.breaks[..breaks.len()], breaks);
+    let list = &tables.uncovered[..counts.uncovered as usize];
+    assert_eq!(list.len(), uncovered.len());
+    assert_eq!(list.iter().copied().collect::<BTreeSet<u64>>(), uncovered);
+}
+
+/// A flip list or a walk that is refused changes nothing; any other leaves the same clauses, counted afresh. Whether it was accepted.
+pub fn is_accepted(limits: &Limits, result: u64, before: &Lent, after: &Lent) -> bool {
+    assert_excess_untouched(limits, &before.1, &after.1);
+    if result == 0 {
+        assert!(before == after);
+        return false;
+    }
+    assert!(agree(limits, &before.0, &before.1) && agree(limits, &after.0, &after.1));
+    assert_same_clauses(&before.1, &after.1);
+    assert_counted_afresh(&after.0, &after.1);
+    true
 }
