@@ -12,13 +12,14 @@
 static ngi_tables t;
 static uint8_t out[NGI_OUT_SIZE];
 
-/* The ten tables one by one, as a caller without NGI_LEND lends them; the short form lends one entry of the last too few. */
+/* The eleven tables one by one, as a caller without NGI_LEND lends them; a short form lends one entry too few, of places or of marks. */
 #define NINE_SPELLED(t)                                                                                                         \
     (t).names, NGI_NAMES_SIZE, (t).values, NGI_VALUES_SIZE, (t).starts, NGI_STARTS_SIZE, (t).literals_table, NGI_LITERALS_SIZE, \
         (t).occurrence_starts, NGI_OCCURRENCE_STARTS_SIZE, (t).occurrences, NGI_OCCURRENCES_SIZE, (t).true_counts,              \
         NGI_TRUE_COUNTS_SIZE, (t).break_counts, NGI_BREAK_COUNTS_SIZE, (t).uncovered_list, NGI_UNCOVERED_LIST_SIZE
-#define SPELLED(t) NINE_SPELLED(t), (t).places, NGI_PLACES_SIZE
-#define SHORT(t) NINE_SPELLED(t), (t).places, NGI_PLACES_SIZE - 1
+#define SPELLED(t) NINE_SPELLED(t), (t).places, NGI_PLACES_SIZE, (t).marks, NGI_MARKS_SIZE
+#define SHORT(t) NINE_SPELLED(t), (t).places, NGI_PLACES_SIZE - 1, (t).marks, NGI_MARKS_SIZE
+#define SHORT_MARKS(t) NINE_SPELLED(t), (t).places, NGI_PLACES_SIZE, (t).marks, NGI_MARKS_SIZE - 1
 
 /* A string as bytes and their number, without the byte 0 at its end. */
 #define BYTES(string) (const uint8_t *)(string), sizeof(string) - 1
@@ -47,8 +48,8 @@ static void check(int holds, const char *what, int line)
 #define CHECK(holds) check(holds, #holds, __LINE__)
 
 /* Whether the first entries of a table are these. */
-#define BEGINS(table, ...) \
-    (memcmp(table, (const uint16_t[]){__VA_ARGS__}, sizeof((const uint16_t[]){__VA_ARGS__})) == 0)
+#define BEGINS(table, ...) (memcmp(table, ENTRIES(table, __VA_ARGS__), sizeof ENTRIES(table, __VA_ARGS__)) == 0)
+#define ENTRIES(table, ...) ((const __typeof__((table)[0])[]){__VA_ARGS__})
 
 static int is_zero(const void *table, size_t size)
 {
@@ -102,7 +103,7 @@ static void refused_draws(void)
 }
 
 /* Whether these are the arguments: each table of a set where its name stands, at its full size. */
-static int are_whole(const ngi_tables *set, NGI_TABLE_PARAMETERS(const))
+static int are_whole(const ngi_tables *set, NGI_TABLE_PARAMETERS(const, const, const))
 {
     return names == set->names && names_length == NGI_NAMES_SIZE && values == set->values && values_length == NGI_VALUES_SIZE &&
            starts == set->starts && starts_length == NGI_STARTS_SIZE &&
@@ -112,7 +113,7 @@ static int are_whole(const ngi_tables *set, NGI_TABLE_PARAMETERS(const))
            true_counts == set->true_counts && true_counts_length == NGI_TRUE_COUNTS_SIZE &&
            break_counts == set->break_counts && break_counts_length == NGI_BREAK_COUNTS_SIZE &&
            uncovered_list == set->uncovered_list && uncovered_list_length == NGI_UNCOVERED_LIST_SIZE &&
-           places == set->places && places_length == NGI_PLACES_SIZE;
+           places == set->places && places_length == NGI_PLACES_SIZE && marks == set->marks && marks_length == NGI_MARKS_SIZE;
 }
 
 /* No two tables of one size are left the same by this text, so none can be lent for another unseen. */
@@ -129,6 +130,7 @@ static void lending(void)
     CHECK(memcmp(&one, &other, sizeof one) == 0);
     CHECK(BEGINS(one.true_counts, 1, 0, 0, 0) && BEGINS(one.uncovered_list, 1, 2, 0) && BEGINS(one.places, 0, 0, 1, 0));
     CHECK(BEGINS(one.literals_table, 1, 2, 4, 0) && BEGINS(one.occurrences, 0, 1, 2, 0));
+    CHECK(is_zero(one.marks, sizeof one.marks));
 }
 
 static void reading(void)
@@ -221,6 +223,149 @@ static void refused_flips(void)
     CHECK(ngi_flip(b_and_unknown, 1, COUNTS(r), SHORT(t)).reason == NGI_TABLE_TOO_SHORT);
 }
 
+/* --- pins --- */
+
+enum { A, B, C, D, UNKNOWN };
+
+/* Terms a to d, of which b decides about the first two clauses. */
+#define PINNING_TEXT "a b\n~a b\nc d\n"
+
+/* Whether this is a walk that gave up, after so many of either. */
+static int gave_up(ngi_walk_answer a, uint32_t walks, uint32_t flips)
+{
+    return a.result == 2 && a.reason == NGI_NO_REASON && a.walks == walks && a.flips == flips && a.uncovered > 0;
+}
+
+static int is_applied(ngi_flip_answer f, uint32_t uncovered)
+{
+    return f.result == 1 && f.reason == NGI_NO_REASON && f.terms == 4 && f.clauses == 3 && f.literals == 6 && f.uncovered == uncovered;
+}
+
+/* The text with a term pinned; what a reading left is kept first. */
+static ngi_flip_answer read_and_pin(uint32_t term, uint32_t value)
+{
+    ngi_read_answer r = ngi_read(BYTES(PINNING_TEXT), NGI_LEND(t));
+    keep_all();
+    return ngi_pin(term, value, COUNTS(r), NGI_LEND(t));
+}
+
+static void pinning(void)
+{
+    ngi_flip_answer f = read_and_pin(B, 0); /* it is 0 already: the mark is all that changes */
+    kept.marks[B] = 1;
+    CHECK(is_applied(f, 2) && all_are_as_kept());
+    f = ngi_pin(B, 1, COUNTS(f), NGI_LEND(t)); /* anew, at the other value: b turns */
+    CHECK(is_applied(f, 1) && t.values[0] == 2 && BEGINS(t.marks, 0, 2, 0, 0, 0));
+    CHECK(BEGINS(t.true_counts, 1, 2, 0, 0) && BEGINS(t.break_counts, 0, 1, 0, 0, 0));
+    CHECK(BEGINS(t.uncovered_list, 2, 0) && BEGINS(t.places, 0, 0, 0, 0));
+    f = ngi_pin(D, 4294967295, COUNTS(f), NGI_LEND(t)); /* whatever is not 0 pins at 1 */
+    CHECK(is_applied(f, 0) && t.values[0] == 10 && BEGINS(t.marks, 0, 2, 0, 2, 0));
+}
+
+static void walking_pinned(void)
+{
+    ngi_flip_answer f = read_and_pin(B, 0);
+    ngi_walk_answer a = ngi_walk(1, 50, 3, 400, 0, COUNTS(f), NGI_LEND(t));
+    CHECK(gave_up(a, 3, 150) && a.uncovered == 1 && t.values[0] == 9 && BEGINS(t.marks, 0, 1, 0, 0, 0));
+    CHECK(BEGINS(t.true_counts, 1, 0, 1, 0) && BEGINS(t.break_counts, 1, 0, 0, 1, 0) && BEGINS(t.uncovered_list, 1, 0));
+    f = read_and_pin(B, 1);
+    a = ngi_walk(1, 50, 3, 400, 0, COUNTS(f), NGI_LEND(t));
+    CHECK(a.result == 1 && a.walks == 1 && a.flips == 1 && a.uncovered == 0 && t.values[0] == 11);
+    CHECK(BEGINS(t.true_counts, 2, 1, 1, 0) && BEGINS(t.break_counts, 0, 1, 0, 1, 0) && BEGINS(t.marks, 0, 2, 0, 0, 0));
+}
+
+/* A clause with no free term ends each walk, with what flips it has made by then. */
+static void ending_for_want_of_a_free_term(void)
+{
+    ngi_read_answer r = ngi_read(BYTES("a\n"), NGI_LEND(t));
+    ngi_flip_answer f = ngi_pin(A, 0, COUNTS(r), NGI_LEND(t));
+    CHECK(gave_up(ngi_walk(1, 50, 3, 400, 0, COUNTS(f), NGI_LEND(t)), 3, 0) && t.values[0] == 0);
+    r = ngi_read(BYTES("a b\n~a b\nb\n"), NGI_LEND(t));
+    f = ngi_pin(B, 0, COUNTS(r), NGI_LEND(t));
+    ngi_walk_answer a = ngi_walk(2, 20, 2, 500, 0, COUNTS(f), NGI_LEND(t));
+    CHECK(gave_up(a, 2, 1) && a.uncovered == 2 && t.values[0] == 0 && BEGINS(t.uncovered_list, 0, 2, 0));
+    a = ngi_walk(1, 20, 2, 500, 0, COUNTS(a), NGI_LEND(t));
+    CHECK(gave_up(a, 2, 0) && a.uncovered == 2 && t.values[0] == 1 && BEGINS(t.uncovered_list, 1, 2, 0));
+}
+
+static void lifting(void)
+{
+    static const uint16_t b_once[] = {B};
+    ngi_flip_answer f = read_and_pin(B, 1);
+    keep_all();
+    f = ngi_lift(B, COUNTS(f), NGI_LEND(t));
+    kept.marks[B] = 0;
+    CHECK(is_applied(f, 1) && all_are_as_kept()); /* b keeps its value */
+    f = ngi_lift(B, COUNTS(f), NGI_LEND(t));
+    CHECK(is_applied(f, 1) && all_are_as_kept()); /* what is free may be lifted too */
+    CHECK(is_applied(ngi_flip(b_once, 1, COUNTS(f), NGI_LEND(t)), 2) && t.values[0] == 0);
+}
+
+static void refused_flips_of_pinned_terms(void)
+{
+    static const uint16_t pinned[] = {A, B}, pinned_and_unknown[] = {B, UNKNOWN}, free_terms[] = {A, D};
+    ngi_flip_answer f = read_and_pin(B, 0);
+    keep_all();
+    ngi_flip_answer refused = ngi_flip(pinned, 2, COUNTS(f), NGI_LEND(t));
+    CHECK(refused.result == 0 && refused.reason == NGI_PINNED_TERM && refused.uncovered == 2);
+    CHECK(ngi_flip(pinned_and_unknown, 2, COUNTS(f), NGI_LEND(t)).reason == NGI_UNKNOWN_TERM); /* though it stands later */
+    CHECK(all_are_as_kept());
+    CHECK(is_applied(ngi_flip(free_terms, 2, COUNTS(f), NGI_LEND(t)), 1) && t.values[0] == 9);
+}
+
+static void refused_pins(void)
+{
+    ngi_flip_answer f = read_and_pin(B, 1);
+    keep_all();
+    ngi_flip_answer pin = ngi_pin(UNKNOWN, 0, COUNTS(f), NGI_LEND(t)), lift = ngi_lift(UNKNOWN, COUNTS(f), NGI_LEND(t));
+    CHECK(pin.result == 0 && pin.reason == NGI_UNKNOWN_TERM && pin.uncovered == 1 && lift.result == 0 && lift.reason == NGI_UNKNOWN_TERM);
+    pin = ngi_pin(UNKNOWN, 0, f.terms, f.clauses, f.literals, 0, NGI_LEND(t));
+    lift = ngi_lift(UNKNOWN, f.terms, f.clauses, f.literals, 0, NGI_LEND(t));
+    CHECK(pin.result == 0 && pin.reason == NGI_TABLES_DISAGREE && pin.uncovered == 0);
+    CHECK(lift.result == 0 && lift.reason == NGI_TABLES_DISAGREE && lift.uncovered == 0);
+    CHECK(all_are_as_kept());
+}
+
+/* Of the calls that judge tables each refuses these, and changes nothing. */
+static int disagree(ngi_flip_answer counts)
+{
+    static const uint16_t a_once[] = {A};
+    keep_all();
+    return ngi_walk(1, 50, 3, 400, 0, COUNTS(counts), NGI_LEND(t)).reason == NGI_TABLES_DISAGREE &&
+           ngi_flip(a_once, 1, COUNTS(counts), NGI_LEND(t)).reason == NGI_TABLES_DISAGREE &&
+           ngi_pin(A, 1, COUNTS(counts), NGI_LEND(t)).reason == NGI_TABLES_DISAGREE &&
+           ngi_lift(B, COUNTS(counts), NGI_LEND(t)).reason == NGI_TABLES_DISAGREE && all_are_as_kept();
+}
+
+static void damaged_marks(void)
+{
+    ngi_flip_answer f = read_and_pin(B, 0);
+    t.marks[B] = 2; /* but its value is 0 */
+    CHECK(disagree(f));
+    t.marks[B] = 3;
+    CHECK(disagree(f));
+    t.marks[B] = 0;
+    t.marks[NGI_MARKS_SIZE - 1] = 1; /* past the terms */
+    CHECK(disagree(f));
+}
+
+/* Every call on tables; for another reason they would be refused too. */
+static void short_marks(void)
+{
+    static const uint16_t unknown[] = {UNKNOWN};
+    ngi_flip_answer f = read_and_pin(B, 1);
+    keep_all();
+    CHECK(ngi_read(BYTES("c"), SHORT_MARKS(t)).reason == NGI_TABLE_TOO_SHORT);
+    CHECK(ngi_walk(0, 50, 3, 400, 0, COUNTS(f), SHORT_MARKS(t)).reason == NGI_TABLE_TOO_SHORT);
+    CHECK(ngi_flip(unknown, 1, COUNTS(f), SHORT_MARKS(t)).reason == NGI_TABLE_TOO_SHORT);
+    CHECK(ngi_pin(UNKNOWN, 0, COUNTS(f), SHORT_MARKS(t)).reason == NGI_TABLE_TOO_SHORT);
+    CHECK(ngi_lift(UNKNOWN, COUNTS(f), SHORT_MARKS(t)).reason == NGI_TABLE_TOO_SHORT);
+    CHECK(ngi_run(BYTES("c"), SHORT_MARKS(t), out, NGI_OUT_SIZE).reason == NGI_TABLE_TOO_SHORT);
+    CHECK(all_are_as_kept());
+}
+
+/* --- whole runs --- */
+
 static int is_refused(ngi_run_answer a)
 {
     return a.result == 0 && a.reason == NGI_TABLE_TOO_SHORT && a.length == 0;
@@ -249,6 +394,17 @@ static void running(void)
     CHECK(PRINTS(SHEET "choice=odd\n" TEXT, "result=refused\nreason=10\nline=5\n"));
     CHECK(PRINTS(SHEET "a b\na~b\n", "result=refused\nreason=4\nline=2\n"));
     CHECK(all_are_zero());
+}
+
+/* No sheet pins: what is read is free, whatever was marked before. */
+static void running_over_pins(void)
+{
+    ngi_flip_answer f = read_and_pin(B, 0);
+    ngi_pin(A, 0, COUNTS(f), NGI_LEND(t));
+    CHECK(PRINTS("seed=0\n" TEXT, "result=refused\nreason=11\nline=1\n"));
+    CHECK(BEGINS(t.marks, 1, 1, 0, 0, 0)); /* as they were */
+    CHECK(PRINTS(SHEET TEXT, FOUND));
+    CHECK(t.values[0] == 3 && is_zero(t.marks, sizeof t.marks));
 }
 
 static void rest_of_the_buffer(void)
@@ -281,7 +437,16 @@ int main(void)
     refused_walks();
     flipping();
     refused_flips();
+    pinning();
+    walking_pinned();
+    ending_for_want_of_a_free_term();
+    lifting();
+    refused_flips_of_pinned_terms();
+    refused_pins();
+    damaged_marks();
+    short_marks();
     running();
+    running_over_pins();
     rest_of_the_buffer();
     refused_runs();
     printf("%u passed, %u failed\n", passed, failed);

@@ -3,22 +3,24 @@
  * Numbers are little-endian; a request begins with its opcode, and everything but entries and bytes of text is 32 bits wide.
  *
  *   opcode    request                                                    answer
- *   1 lend    the lengths of the ten tables, then the entries of each    none: the tables are kept for the calls that follow
- *   2 flip    the list's length, its entries, four counts                status, the six numbers of ngi_flip_answer, list, ten tables
- *   3 read    the text's length, its bytes                               status, the seven numbers of ngi_read_answer, text, ten tables
- *   4 walk    seed, flips, walks, bias, even, four counts                status, the eight numbers of ngi_walk_answer, ten tables
+ *   1 lend    the lengths of the eleven tables, then their entries       none: the tables are kept for the calls that follow
+ *   2 flip    the list's length, its entries, four counts                status, the six numbers of ngi_flip_answer, list, eleven tables
+ *   3 read    the text's length, its bytes                               status, the seven numbers of ngi_read_answer, text, eleven tables
+ *   4 walk    seed, flips, walks, bias, even, four counts                status, the eight numbers of ngi_walk_answer, eleven tables
  *   5 draw    a state                                                    the three numbers of ngi_drawn
  *   6 choice  a state, how many to choose among                          the same
  *   7 heads   a state, a bias                                            the same
- *   8 run     the lengths of input and output, then the bytes of each    status, the three numbers of ngi_run_answer, input, output, ten tables
+ *   8 run     the lengths of input and output, then the bytes of each    status, the three numbers of ngi_run_answer, input, output, eleven tables
  *   9 follow  0 for the reader or 1 for its cursor, the lengths of text  status, a row of seven numbers for each step, text
  *             and script, place, line, then the bytes of each
  *  10 even    a state, how many to choose among                          the three numbers of ngi_drawn
+ *  11 pin     a term, a value, four counts                               status, the six numbers of ngi_flip_answer, eleven tables
+ *  12 lift    a term, four counts                                        the same
  *
  * A script's byte is 0 to pass and 1 to tell the next item. The place and the line where following begins, and the rows, are 64 bits wide.
  *
  * The length in ngi_run_answer is 64 bits wide. Guards stand before and after all that is lent. The status is 0 where every guard is as it was,
- * else one more than the number of the first table that has lost one, or 11 for the list, the text or the input, or 12 for the output. The end
+ * else one more than the number of the first table that has lost one, or 12 for the list, the text or the input, or 13 for the output. The end
  * of the input ends the program.
  */
 #include <stdint.h>
@@ -28,8 +30,8 @@
 
 #include "ngiyarumba.h"
 
-enum { LEND = 1, FLIP = 2, READ = 3, WALK = 4, DRAW = 5, CHOICE = 6, HEADS = 7, RUN = 8, FOLLOW = 9, EVEN = 10 };
-enum { TABLES = 10, GUARD = 64 };
+enum { LEND = 1, FLIP = 2, READ = 3, WALK = 4, DRAW = 5, CHOICE = 6, HEADS = 7, RUN = 8, FOLLOW = 9, EVEN = 10, PIN = 11, LIFT = 12 };
+enum { TABLES = 11, GUARD = 64 };
 enum { INPUT_CUT = 1, OUTPUT_CLOSED = 2, NO_MEMORY = 3, UNKNOWN_OPCODE = 4 };
 
 /* --- the calls of libreader.a, which has no header --- */
@@ -54,8 +56,8 @@ struct lent {
     size_t count, width;
 };
 
-static struct lent tables[TABLES] = {{0, 0, 8}, {0, 0, 4}, {0, 0, 2}, {0, 0, 2}, {0, 0, 2},
-                                     {0, 0, 2}, {0, 0, 2}, {0, 0, 2}, {0, 0, 2}, {0, 0, 2}};
+static struct lent tables[TABLES] = {{0, 0, 8}, {0, 0, 4}, {0, 0, 2}, {0, 0, 2}, {0, 0, 2}, {0, 0, 2},
+                                     {0, 0, 2}, {0, 0, 2}, {0, 0, 2}, {0, 0, 2}, {0, 0, 1}};
 static struct lent list = {0, 0, 2}, text = {0, 0, 1}, input = {0, 0, 1}, output = {0, 0, 1};
 
 /* What following a script takes and gives: bytes, and seven numbers for each of them. */
@@ -192,7 +194,8 @@ static void give_answer(const void *answer, size_t size, const struct lent *cons
 #define LENT(lent) entries(&(lent)), (lent).count
 #define LENT_TABLES                                                                              \
     LENT(tables[0]), LENT(tables[1]), LENT(tables[2]), LENT(tables[3]), LENT(tables[4]),         \
-        LENT(tables[5]), LENT(tables[6]), LENT(tables[7]), LENT(tables[8]), LENT(tables[9])
+        LENT(tables[5]), LENT(tables[6]), LENT(tables[7]), LENT(tables[8]), LENT(tables[9]),     \
+        LENT(tables[10])
 
 static void flip(void)
 {
@@ -219,6 +222,24 @@ static void walk(void)
     take(counts, sizeof counts);
     ngi_walk_answer answer =
         ngi_walk(order[0], order[1], order[2], order[3], order[4], counts[0], counts[1], counts[2], counts[3], LENT_TABLES);
+    give_answer(&answer, sizeof answer, nothing);
+}
+
+static void pin(void)
+{
+    uint32_t term_and_value[2], counts[4];
+    take(term_and_value, sizeof term_and_value);
+    take(counts, sizeof counts);
+    ngi_flip_answer answer = ngi_pin(term_and_value[0], term_and_value[1], counts[0], counts[1], counts[2], counts[3], LENT_TABLES);
+    give_answer(&answer, sizeof answer, nothing);
+}
+
+static void lift(void)
+{
+    uint32_t counts[4];
+    uint32_t term = take_number();
+    take(counts, sizeof counts);
+    ngi_flip_answer answer = ngi_lift(term, counts[0], counts[1], counts[2], counts[3], LENT_TABLES);
     give_answer(&answer, sizeof answer, nothing);
 }
 
@@ -339,6 +360,12 @@ int main(void)
             break;
         case EVEN:
             choice_even();
+            break;
+        case PIN:
+            pin();
+            break;
+        case LIFT:
+            lift();
             break;
         default:
             exit(UNKNOWN_OPCODE);

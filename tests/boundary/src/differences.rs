@@ -1,8 +1,9 @@
 //! What two sets of tables do not have in common, in words.
 
+use oracle::limits::TABLES;
 use oracle::Tables;
 
-pub const TABLE_NAMES: [&str; 10] = [
+pub const TABLE_NAMES: [&str; TABLES] = [
     "names",
     "values",
     "clause starts",
@@ -13,6 +14,7 @@ pub const TABLE_NAMES: [&str; 10] = [
     "break counts",
     "uncovered list",
     "places",
+    "marks",
 ];
 
 /// Entries told of each table; the others are counted.

@@ -8,6 +8,7 @@ use oracle::draw::Drawn;
 use oracle::flips::FlipAnswer;
 use oracle::generate::ReaderCase;
 use oracle::kinds;
+use oracle::limits::TABLES;
 use oracle::reader::{ReaderStep, Row};
 use oracle::reading::ReadAnswer;
 use oracle::walk::WalkAnswer;
@@ -31,6 +32,8 @@ const HEADS: u32 = 7;
 const RUN: u32 = 8;
 const FOLLOW: u32 = 9;
 const EVEN: u32 = 10;
+const PIN: u32 = 11;
+const LIFT: u32 = 12;
 
 /// Bytes of a flip list's entry, of a text's, and of a number of a reader's row.
 const TERM_WIDTH: usize = 2;
@@ -49,7 +52,7 @@ pub struct Host {
     requests: ChildStdin,
     answers: ChildStdout,
     /// The lengths of the tables that are lent.
-    lengths: [usize; 10],
+    lengths: [usize; TABLES],
 }
 
 /// An answer, and all that was lent as it stands after the call.
@@ -93,7 +96,7 @@ impl Host {
             requests: child.stdin.take().expect("the input is piped"),
             answers: child.stdout.take().expect("the output is piped"),
             process: Watched::new(child, patience),
-            lengths: [0; 10],
+            lengths: [0; TABLES],
         }
     }
 
@@ -114,6 +117,25 @@ impl Host {
         put_numbers(&mut request, &counts.all());
         let list = ("list", list.len(), TERM_WIDTH);
         self.call(&request, &[list], Host::flip_answer)
+    }
+
+    /// `ngi_pin` on the tables that are lent.
+    pub fn pin(
+        &mut self,
+        term: u64,
+        value: u64,
+        counts: &Counts,
+    ) -> Result<Called<FlipAnswer>, Fault> {
+        let mut request = request(PIN, &[term, value]);
+        put_numbers(&mut request, &counts.all());
+        self.call(&request, &[], Host::flip_answer)
+    }
+
+    /// `ngi_lift` on the tables that are lent.
+    pub fn lift(&mut self, term: u64, counts: &Counts) -> Result<Called<FlipAnswer>, Fault> {
+        let mut request = request(LIFT, &[term]);
+        put_numbers(&mut request, &counts.all());
+        self.call(&request, &[], Host::flip_answer)
     }
 
     /// `ngi_read` into the tables that are lent.
@@ -306,7 +328,7 @@ fn step_byte(step: ReaderStep) -> u8 {
 }
 
 /// Bytes of each table's entry.
-fn table_widths() -> [usize; 10] {
+fn table_widths() -> [usize; TABLES] {
     NARROW.entry_bits().map(|bits| bits as usize / 8)
 }
 

@@ -2,12 +2,13 @@
 
 use oracle::generate::lent::rubbish_entry;
 use oracle::generate::Random;
+use oracle::limits::TABLES;
 use oracle::Tables;
 
 use crate::differences::TABLE_NAMES;
 use crate::{Lent, Sides, NARROW};
 
-/// Calls on tables of which one is too short: by one entry, by half, or down to one entry or none; then on ten of no entry.
+/// Calls on tables of which one is too short: by one entry, by half, or down to one entry or none; then on tables of no entry.
 pub fn for_each_shorter(make: fn(&mut Random) -> Lent, call: impl Fn(&mut Sides, &mut Random)) {
     let mut sides = Sides::start();
     for (table, full) in NARROW.full_sizes().into_iter().enumerate() {
@@ -24,7 +25,7 @@ pub fn for_each_shorter(make: fn(&mut Random) -> Lent, call: impl Fn(&mut Sides,
     call(&mut sides, &mut Random::new(0));
 }
 
-/// Calls on tables with rubbish beyond one of them, by one entry or many, then beyond all ten; what lies beyond is compared after each call.
+/// Calls on tables with rubbish beyond one of them, by one entry or many, then beyond all of them; what lies beyond is compared after each call.
 pub fn for_each_longer(make: fn(&mut Random) -> Lent, call: impl Fn(&mut Sides, &mut Random)) {
     let mut sides = Sides::start();
     for (table, name) in TABLE_NAMES.iter().enumerate() {
@@ -46,7 +47,7 @@ pub fn for_each_longer(make: fn(&mut Random) -> Lent, call: impl Fn(&mut Sides, 
 }
 
 fn add_rubbish_to_all(tables: &mut Tables, random: &mut Random) {
-    for table in 0..10 {
+    for table in 0..TABLES {
         let more = random.between(1, 9);
         add_rubbish(tables, table, more, random);
     }

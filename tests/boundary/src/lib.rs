@@ -4,6 +4,7 @@ pub mod differences;
 pub mod draws;
 pub mod host;
 pub mod lengths;
+pub mod pin_kinds;
 pub mod readings;
 pub mod rubbish;
 pub mod run_kinds;
@@ -24,7 +25,9 @@ pub use sides::Sides;
 pub use tally::Tally;
 
 use oracle::generate::limit_texts::text_full_of_all;
-use oracle::generate::{flip_list_of, order_of, standing_tables, standing_tables_of};
+use oracle::generate::{
+    flip_list_of, order_of, pinned_tables, standing_tables, standing_tables_of,
+};
 use oracle::generate::{FlipListKind, OrderKind, Random};
 use oracle::{Counts, Limits, Order, Tables};
 
@@ -42,7 +45,7 @@ pub fn order_for(flips: u64, walks: u64, bias: u64) -> Order {
     }
 }
 
-/// The four counts and the ten tables that a call is given.
+/// The four counts and the tables that a call is given.
 pub type Lent = (Counts, Tables);
 
 /// A list of a few known terms.
@@ -55,9 +58,14 @@ pub fn few_steps(random: &mut Random) -> Order {
     order_of(OrderKind::FewFlips, random)
 }
 
-/// Tables that agree.
+/// Tables that agree, with no term pinned.
 pub fn agreeing(random: &mut Random) -> Lent {
     standing_tables(&NARROW, random)
+}
+
+/// Tables that agree, with any number of terms pinned.
+pub fn pinned(random: &mut Random) -> Lent {
+    pinned_tables(&NARROW, random)
 }
 
 /// Tables that agree and hold this text, which must be accepted.

@@ -2,11 +2,13 @@
 
 use std::fmt::Debug;
 
+use oracle::calls::{Call, Told};
 use oracle::flips::{flip, FlipAnswer};
 use oracle::generate::Random;
+use oracle::pins::{lift, pin};
 use oracle::reading::{read, ReadAnswer};
 use oracle::reasons::{NONE, TABLE_TOO_SHORT};
-use oracle::walk::{walk_telling, Step, WalkAnswer};
+use oracle::walk::{walk_telling, End, Event, Step, WalkAnswer};
 use oracle::{run_on, Counts, Order, RunAnswer, Tables};
 
 use crate::differences::{difference, differences};
@@ -21,13 +23,14 @@ const SHOWN: usize = 200;
 pub struct Sides {
     host: Host,
     /// What is lent, in words, for the reports.
-    case: String,
+    pub case: String,
     /// Calls on these tables.
     calls: usize,
     pub counts: Counts,
     pub tables: Tables,
-    /// The steps of the last walk.
+    /// The steps of the last call to walk, and how each of its walks ended.
     pub steps: Vec<Step>,
+    pub ends: Vec<End>,
 }
 
 impl Sides {
@@ -39,6 +42,7 @@ impl Sides {
             counts: Counts::default(),
             tables: Tables::default(),
             steps: Vec::new(),
+            ends: Vec::new(),
         }
     }
 
@@ -72,6 +76,34 @@ impl Sides {
         answer
     }
 
+    /// Gives a term and a value to both, to pin it at; they must answer the same and leave the same.
+    pub fn pin(&mut self, term: u64, value: u64) -> FlipAnswer {
+        let called = self.host.pin(term, value, &self.counts);
+        let answer = pin(&NARROW, term, value, self.counts, &mut self.tables);
+        self.compare(format!("a pin of {term} at {value}"), &[], &answer, called);
+        self.counts = answer.counts;
+        answer
+    }
+
+    /// Gives a term to both, to lift its pin; they must answer the same and leave the same.
+    pub fn lift(&mut self, term: u64) -> FlipAnswer {
+        let called = self.host.lift(term, &self.counts);
+        let answer = lift(&NARROW, term, self.counts, &mut self.tables);
+        self.compare(format!("a lift of {term}"), &[], &answer, called);
+        self.counts = answer.counts;
+        answer
+    }
+
+    /// Makes a call of a row on both.
+    pub fn call(&mut self, call: &Call) -> Told {
+        match call {
+            Call::Pin { term, value } => self.pin(*term, *value).into(),
+            Call::Lift { term } => self.lift(*term).into(),
+            Call::Flip { list } => self.flip(list).into(),
+            Call::Walk { order } => self.walk(order).into(),
+        }
+    }
+
     /// Gives a text to both; they must answer the same and leave the same.
     pub fn read(&mut self, text: &[u8]) -> ReadAnswer {
         let called = self.host.read(text);
@@ -85,7 +117,11 @@ impl Sides {
     pub fn walk(&mut self, order: &Order) -> WalkAnswer {
         let called = self.host.walk(order, &self.counts);
         self.steps.clear();
-        let mut tell = |step| self.steps.push(step);
+        self.ends.clear();
+        let mut tell = |event| match event {
+            Event::Flip(step) => self.steps.push(step),
+            Event::End(end) => self.ends.push(end),
+        };
         let answer = walk_telling(&NARROW, order, self.counts, &mut self.tables, &mut tell);
         self.compare(format!("{order:?}"), &[], &answer, called);
         self.counts = answer.counts;
@@ -159,6 +195,15 @@ impl Sides {
         self.see_unchanged(before);
     }
 
+    /// Gives a term that both must neither pin, at either value, nor lift, for this reason, with nothing changed.
+    pub fn refuse_pin_and_lift(&mut self, term: u64, reason: u64) {
+        let before = (self.counts, self.tables.clone());
+        let expected = FlipAnswer::refused(reason, self.counts);
+        let answers = [self.pin(term, 0), self.pin(term, 1), self.lift(term)];
+        assert_eq!(answers, [expected; 3], "{}", self.case);
+        self.see_unchanged(before);
+    }
+
     /// Gives an order that both must refuse for this reason, with nothing changed.
     pub fn refuse_order(&mut self, order: &Order, reason: u64) {
         let before = (self.counts, self.tables.clone());
@@ -182,6 +227,25 @@ impl Sides {
     pub fn apply(&mut self, list: &[u64]) {
         let answer = self.flip(list);
         assert_eq!((answer.result, answer.reason), (1, 0), "{}", self.case);
+    }
+
+    /// Gives a term that both must pin at this value.
+    pub fn apply_pin(&mut self, term: u64, value: u64) {
+        let answer = self.pin(term, value);
+        assert_eq!((answer.result, answer.reason), (1, NONE), "{}", self.case);
+    }
+
+    /// Gives a term whose pin both must lift; a free one has none, and is lifted all the same.
+    pub fn apply_lift(&mut self, term: u64) {
+        let answer = self.lift(term);
+        assert_eq!((answer.result, answer.reason), (1, NONE), "{}", self.case);
+    }
+
+    /// Gives an order that both must walk by.
+    pub fn walk_by(&mut self, order: &Order) -> WalkAnswer {
+        let answer = self.walk(order);
+        assert_eq!(answer.reason, NONE, "{}", self.case);
+        answer
     }
 
     /// Gives a text that both must accept.

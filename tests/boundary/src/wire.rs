@@ -20,6 +20,7 @@ pub fn put_numbers(request: &mut Vec<u8>, numbers: &[u64]) {
 /// Each width by itself, so that the compiler knows it: an entry then takes no call.
 pub fn put_entries(request: &mut Vec<u8>, entries: &[u64], width: usize) {
     match width {
+        1 => put_wide::<1>(request, entries),
         2 => put_wide::<2>(request, entries),
         4 => put_wide::<4>(request, entries),
         _ => put_wide::<8>(request, entries),

@@ -182,7 +182,7 @@ fn the_lists_that_request_7_lists_leave_what_its_rows_say() {
         let counts = readings.accept(row.text.as_bytes());
         let sides = &mut readings.sides;
         row.lists.iter().for_each(|list| sides.apply(list));
-        let [_, _, _, _, _, _, trues, breaks, uncovered, places] = sides.counts.in_use();
+        let [_, _, _, _, _, _, trues, breaks, uncovered, places, _] = sides.counts.in_use();
         let tables = &sides.tables;
         assert_eq!(sides.counts.all()[..3], counts.all()[..3]);
         assert_eq!(tables.values[0], row.values, "{:?}", row.lists);

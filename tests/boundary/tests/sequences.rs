@@ -1,4 +1,4 @@
-//! Readings, flip lists, walks and whole runs one after the other on the same tables.
+//! Readings, flip lists, pins, walks and whole runs one after the other on the same tables.
 
 use boundary::rubbish::rubbish_output;
 use boundary::tally::share_out;
@@ -8,8 +8,8 @@ use oracle::kinds;
 use oracle::reasons::NONE;
 use oracle::sheet::read_sheet;
 
-const FILES: u64 = 200;
-const CALLS_ON_EACH: u64 = 25;
+const FILES: u64 = 300;
+const CALLS_ON_EACH: u64 = 40;
 
 kinds! {
     /// What a call came to.
@@ -18,6 +18,10 @@ kinds! {
         ReadingRefused,
         Flipped,
         ListRefused,
+        Pinned,
+        PinRefused,
+        Lifted,
+        LiftRefused,
         Found,
         GaveUp,
         WalkRefused,
@@ -41,10 +45,38 @@ fn flip_some(sides: &mut Sides, random: &mut Random) -> Done {
     let mut list = few_flips(sides.counts.terms, random);
     if random.one_in(3) {
         list.push(sides.counts.terms);
+    } else {
+        list = without_pinned(list, &sides.tables);
     }
     match sides.flip(&list).reason {
         NONE => Flipped,
         _ => ListRefused,
+    }
+}
+
+/// A known term, or one time in three one that is not.
+fn some_term(sides: &Sides, random: &mut Random) -> u64 {
+    let terms = sides.counts.terms;
+    if random.one_in(3) {
+        random.pick(&[terms, terms + (1 << 16)])
+    } else {
+        random.bits() % terms.max(1)
+    }
+}
+
+fn pin_some_term(sides: &mut Sides, random: &mut Random) -> Done {
+    let term = some_term(sides, random);
+    match sides.pin(term, random.bits() % 3).reason {
+        NONE => Pinned,
+        _ => PinRefused,
+    }
+}
+
+fn lift_some_term(sides: &mut Sides, random: &mut Random) -> Done {
+    let term = some_term(sides, random);
+    match sides.lift(term).reason {
+        NONE => Lifted,
+        _ => LiftRefused,
     }
 }
 
@@ -74,11 +106,13 @@ fn run_some(sides: &mut Sides, random: &mut Random) -> Done {
 
 /// Mostly lists, walks and runs.
 fn call_some(sides: &mut Sides, random: &mut Random) -> Done {
-    match random.below(14) {
+    match random.below(24) {
         0 => read_some(sides, TextKind::Cut, random),
         1..=2 => read_some(sides, TextKind::Valid(random.pick(&ValidKind::ALL)), random),
         3..=5 => flip_some(sides, random),
         6..=9 => walk_some(sides, random),
+        10..=12 => pin_some_term(sides, random),
+        13..=15 => lift_some_term(sides, random),
         _ => run_some(sides, random),
     }
 }
@@ -89,7 +123,7 @@ fn pairs() -> impl Iterator<Item = (Done, Done)> {
     let all = befores.flat_map(|before| Done::ALL.map(|after| (before, after)));
     all.filter(|(before, after)| {
         let none_stands = [ReadingRefused, RunTextRefused].contains(before);
-        !none_stands || ![Flipped, Found, GaveUp].contains(after)
+        !none_stands || ![Flipped, Pinned, Lifted, Found, GaveUp].contains(after)
     })
 }
 
