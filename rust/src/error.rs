@@ -47,17 +47,20 @@ pub enum Reason {
     /// 12: no clause stands, or the tables do not agree. Here they do, so it means that no text was
     /// read, or that the last one was refused.
     TablesDisagree = 12,
-    /// 13: a term is named that is not there. By a flip list: one that is not below the term count.
+    /// 13: a term is named that is not there. In a flip list, a pin or a lifting: one that is not below
+    /// the term count.
     UnknownTerm = 13,
     /// 14: a flip list is too long. At most 65,536 flips.
     ListTooLong = 14,
     /// 15: a line is empty or has spaces only. A term with no parent left would go unplaced.
     BlankLine = 15,
+    /// 20: a flip list names a pinned term.
+    PinnedTerm = 20,
 }
 
 impl Reason {
     /// All of them, in the order of their numbers.
-    pub const ALL: [Reason; 15] = [
+    pub const ALL: [Reason; 16] = [
         Reason::TableTooShort,
         Reason::TextTooLong,
         Reason::TextCut,
@@ -73,6 +76,7 @@ impl Reason {
         Reason::UnknownTerm,
         Reason::ListTooLong,
         Reason::BlankLine,
+        Reason::PinnedTerm,
     ];
 
     /// The number, as the program prints it.
@@ -102,6 +106,7 @@ impl Reason {
             Reason::UnknownTerm => "a term is named that is not there",
             Reason::ListTooLong => "a flip list is too long",
             Reason::BlankLine => "a line is empty or has spaces only",
+            Reason::PinnedTerm => "a flip list names a pinned term",
         }
     }
 }

@@ -9,7 +9,7 @@ const LITERALS: usize = 16_384;
 /// `NGI_OUT_SIZE`: no report is longer.
 pub const OUT_SIZE: usize = 10 * TERMS + 64;
 
-/// The ten tables. Each has its full size by its type, as the buffer of a run has, so no call is refused
+/// The eleven tables. Each has its full size by its type, as the buffer of a run has, so no call is refused
 /// for a short one.
 #[derive(Clone, PartialEq, Eq)]
 pub struct Lent {
@@ -23,6 +23,7 @@ pub struct Lent {
     pub break_counts: [u16; TERMS],
     pub uncovered_list: [u16; CLAUSES],
     pub places: [u16; CLAUSES],
+    pub marks: [u8; TERMS],
 }
 
 impl Lent {
@@ -38,6 +39,7 @@ impl Lent {
             break_counts: [0; TERMS],
             uncovered_list: [0; CLAUSES],
             places: [0; CLAUSES],
+            marks: [0; TERMS],
         })
     }
 }
@@ -69,7 +71,7 @@ pub struct WalkAnswer {
     pub counts: Counts,
 }
 
-/// `ngi_flip_answer`.
+/// `ngi_flip_answer`, to a flip list, a pin or a lifting.
 #[repr(C)]
 pub struct FlipAnswer {
     pub result: u32,
@@ -103,6 +105,7 @@ extern "C" {
         break_counts: *mut u16, break_counts_length: usize,
         uncovered_list: *mut u16, uncovered_list_length: usize,
         places: *mut u16, places_length: usize,
+        marks: *mut u8, marks_length: usize,
     ) -> ReadAnswer;
     fn ngi_walk(
         seed: u32,
@@ -122,6 +125,7 @@ extern "C" {
         break_counts: *mut u16, break_counts_length: usize,
         uncovered_list: *mut u16, uncovered_list_length: usize,
         places: *mut u16, places_length: usize,
+        marks: *const u8, marks_length: usize,
     ) -> WalkAnswer;
     fn ngi_flip(
         list: *const u16, list_length: usize,
@@ -137,6 +141,40 @@ extern "C" {
         break_counts: *mut u16, break_counts_length: usize,
         uncovered_list: *mut u16, uncovered_list_length: usize,
         places: *mut u16, places_length: usize,
+        marks: *const u8, marks_length: usize,
+    ) -> FlipAnswer;
+    fn ngi_pin(
+        term: u32,
+        value: u32,
+        terms: u32, clauses: u32,
+        literals: u32, uncovered: u32,
+        names: *const u64, names_length: usize,
+        values: *mut u32, values_length: usize,
+        starts: *const u16, starts_length: usize,
+        literals_table: *const u16, literals_table_length: usize,
+        occurrence_starts: *const u16, occurrence_starts_length: usize,
+        occurrences: *const u16, occurrences_length: usize,
+        true_counts: *mut u16, true_counts_length: usize,
+        break_counts: *mut u16, break_counts_length: usize,
+        uncovered_list: *mut u16, uncovered_list_length: usize,
+        places: *mut u16, places_length: usize,
+        marks: *mut u8, marks_length: usize,
+    ) -> FlipAnswer;
+    fn ngi_lift(
+        term: u32,
+        terms: u32, clauses: u32,
+        literals: u32, uncovered: u32,
+        names: *const u64, names_length: usize,
+        values: *const u32, values_length: usize,
+        starts: *const u16, starts_length: usize,
+        literals_table: *const u16, literals_table_length: usize,
+        occurrence_starts: *const u16, occurrence_starts_length: usize,
+        occurrences: *const u16, occurrences_length: usize,
+        true_counts: *const u16, true_counts_length: usize,
+        break_counts: *const u16, break_counts_length: usize,
+        uncovered_list: *const u16, uncovered_list_length: usize,
+        places: *const u16, places_length: usize,
+        marks: *mut u8, marks_length: usize,
     ) -> FlipAnswer;
     fn ngi_run(
         input: *const u8, input_length: usize,
@@ -150,11 +188,12 @@ extern "C" {
         break_counts: *mut u16, break_counts_length: usize,
         uncovered_list: *mut u16, uncovered_list_length: usize,
         places: *mut u16, places_length: usize,
+        marks: *mut u8, marks_length: usize,
         out: *mut u8, out_length: usize,
     ) -> RunAnswer;
 }
 
-/// Calls with some arguments, then the ten tables, then some more.
+/// Calls with some arguments, then the eleven tables, then some more.
 #[rustfmt::skip]
 macro_rules! call {
     ($call:ident, [$($before:expr),*], $lent:ident, [$($after:expr),*]) => {
@@ -170,6 +209,7 @@ macro_rules! call {
             $lent.break_counts.as_mut_ptr(), $lent.break_counts.len(),
             $lent.uncovered_list.as_mut_ptr(), $lent.uncovered_list.len(),
             $lent.places.as_mut_ptr(), $lent.places.len(),
+            $lent.marks.as_mut_ptr(), $lent.marks.len(),
             $($after,)*
         )
     };
@@ -220,6 +260,26 @@ pub fn flip(list: &[u16], counts: Counts, lent: &mut Lent) -> FlipAnswer {
     unsafe {
         call!(ngi_flip, [
             list.as_ptr(), list.len(),
+            counts.terms, counts.clauses, counts.literals, counts.uncovered
+        ], lent, [])
+    }
+}
+
+#[rustfmt::skip]
+pub fn pin(term: u16, value: bool, counts: Counts, lent: &mut Lent) -> FlipAnswer {
+    unsafe {
+        call!(ngi_pin, [
+            u32::from(term), u32::from(value),
+            counts.terms, counts.clauses, counts.literals, counts.uncovered
+        ], lent, [])
+    }
+}
+
+#[rustfmt::skip]
+pub fn lift(term: u16, counts: Counts, lent: &mut Lent) -> FlipAnswer {
+    unsafe {
+        call!(ngi_lift, [
+            u32::from(term),
             counts.terms, counts.clauses, counts.literals, counts.uncovered
         ], lent, [])
     }

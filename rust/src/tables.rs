@@ -20,8 +20,8 @@ pub struct Counts {
     pub uncovered: u32,
 }
 
-/// The ten tables of the library and their counts: the clauses of one text, and the values of its
-/// terms.
+/// The eleven tables of the library and their counts: the clauses of one text, the values of its terms,
+/// and which of these are pinned.
 ///
 /// ```
 /// use ngiyarumba::Tables;
@@ -39,7 +39,7 @@ pub struct Tables {
 }
 
 impl Tables {
-    /// Tables into which nothing has been read. They take 160 KB.
+    /// Tables into which nothing has been read. They take 162 KB.
     pub fn new() -> Tables {
         Tables {
             lent: Lent::zeros(),
@@ -47,8 +47,8 @@ impl Tables {
         }
     }
 
-    /// Reads clause text in place of what stood. Every value is then false. After a refused text no
-    /// clause stands.
+    /// Reads clause text in place of what stood. Every value is then false, and every term free. After a
+    /// refused text no clause stands.
     ///
     /// ```
     /// # use ngiyarumba::{Reason, Tables};
@@ -65,9 +65,10 @@ impl Tables {
         Ok(self.counts)
     }
 
-    /// Walks from drawn values until every clause is covered, or until each walk has made its flips.
-    /// The values that stand do not matter: the same order over the same clauses ends the same. A
-    /// refused order changes nothing.
+    /// Walks from drawn values until every clause is covered, or until each walk has made its flips or
+    /// has come to a clause whose terms are all pinned. Pinned terms keep their values. The values of
+    /// the others do not matter: the same order over the same clauses and pins ends the same. A refused
+    /// order changes nothing.
     ///
     /// ```
     /// # use ngiyarumba::{Order, Reason, Tables};
@@ -99,9 +100,9 @@ impl Tables {
     }
 
     /// Turns the value of each term that the list names by its number, one after the other. The list
-    /// is applied whole, or refused whole, which changes nothing. Two lists in turn leave what the joined
-    /// list leaves, if it is not too long; a list given twice leaves what stood, but for the order of
-    /// [`uncovered`](Tables::uncovered).
+    /// is applied whole, or refused whole, which changes nothing. One that names a pinned term is refused.
+    /// Two lists in turn leave what the joined list leaves, if it is not too long; a list given twice
+    /// leaves what stood, but for the order of [`uncovered`](Tables::uncovered).
     ///
     /// ```
     /// # use ngiyarumba::Tables;
@@ -115,6 +116,51 @@ impl Tables {
     /// ```
     pub fn flip(&mut self, list: &[u16]) -> Result<Counts, Error> {
         let answer = sys::flip(list, self.counts, &mut self.lent);
+        Error::unless_zero(answer.reason, 0)?;
+        self.counts = answer.counts;
+        Ok(self.counts)
+    }
+
+    /// Pins a term, given by its number, at a value: the term gets the value where it has the other, and
+    /// neither a walk nor a flip list moves it any more. What is pinned may be pinned anew, at the other
+    /// value too. A refused pin changes nothing.
+    ///
+    /// ```
+    /// # use ngiyarumba::{Order, Reason, Tables};
+    /// let mut tables = Tables::new();
+    /// tables.read("river wetland\n~river ~wetland\n")?;
+    /// let wetland = tables.number_of("wetland").unwrap();
+    /// tables.pin(wetland, true)?;
+    /// for seed in 1..=9 {
+    ///     assert!(tables.walk(Order { seed, ..Order::default() })?.is_found());
+    ///     assert_eq!(tables.answer().as_deref(), Some("~river wetland"));
+    /// }
+    /// assert_eq!(tables.flip(&[wetland]).unwrap_err().reason(), Reason::PinnedTerm);
+    /// # Ok::<(), ngiyarumba::Error>(())
+    /// ```
+    pub fn pin(&mut self, term: u16, value: bool) -> Result<Counts, Error> {
+        let answer = sys::pin(term, value, self.counts, &mut self.lent);
+        Error::unless_zero(answer.reason, 0)?;
+        self.counts = answer.counts;
+        Ok(self.counts)
+    }
+
+    /// Lifts the pin of a term, given by its number. Nothing else changes: the term keeps its value until
+    /// a walk or a flip list moves it. A term that is free may be lifted too.
+    ///
+    /// ```
+    /// # use ngiyarumba::Tables;
+    /// let mut tables = Tables::new();
+    /// tables.read("a b\n~a b\n")?;
+    /// let b = tables.number_of("b").unwrap();
+    /// tables.pin(b, true)?;
+    /// tables.lift(b)?;
+    /// assert_eq!(tables.answer().as_deref(), Some("~a b"));
+    /// assert_eq!(tables.flip(&[b])?.uncovered, 1);
+    /// # Ok::<(), ngiyarumba::Error>(())
+    /// ```
+    pub fn lift(&mut self, term: u16) -> Result<Counts, Error> {
+        let answer = sys::lift(term, self.counts, &mut self.lent);
         Error::unless_zero(answer.reason, 0)?;
         self.counts = answer.counts;
         Ok(self.counts)
@@ -189,6 +235,21 @@ impl Tables {
     /// For each term, how many clauses would have no true literal left if it were flipped.
     pub fn break_counts(&self) -> &[u16] {
         &self.lent.break_counts[..self.counts.terms as usize]
+    }
+
+    /// For each term its mark: 0 where it is free, 1 where it is pinned at false, 2 at true.
+    ///
+    /// ```
+    /// # use ngiyarumba::Tables;
+    /// let mut tables = Tables::new();
+    /// tables.read("a b c\n")?;
+    /// tables.pin(0, false)?;
+    /// tables.pin(2, true)?;
+    /// assert_eq!(tables.marks(), [1, 0, 2]);
+    /// # Ok::<(), ngiyarumba::Error>(())
+    /// ```
+    pub fn marks(&self) -> &[u8] {
+        &self.lent.marks[..self.counts.terms as usize]
     }
 
     fn name(&self, term: usize) -> String {

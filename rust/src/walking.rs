@@ -63,8 +63,8 @@ pub enum Outcome {
         /// The terms that are true.
         chosen: u32,
     },
-    /// Each walk has made its flips. The tables hold the end of the last one. There may be an answer
-    /// all the same.
+    /// Each walk has made its flips, or has come to a clause whose terms are all pinned. The tables hold
+    /// the end of the last one. There may be an answer all the same.
     GaveUp {
         /// Those begun.
         walks: u32,

@@ -35,12 +35,25 @@ fn meaning(joined: &str, head: &str) -> String {
 /// The calls as a compiler sees them: the parameters of the tables are written out in each.
 fn written_out() -> String {
     let joined = without_comments(HEADER).replace("\\\n", " ");
-    let tables = meaning(&joined, "NGI_TABLE_PARAMETERS(fixed)");
-    let read = tables.replace("fixed", "const");
-    let written = tables.replace("fixed", &meaning(&joined, "NGI_WRITTEN"));
-    joined
-        .replace("NGI_TABLE_PARAMETERS(const)", &read)
-        .replace("NGI_TABLE_PARAMETERS(NGI_WRITTEN)", &written)
+    let tables = meaning(&joined, "NGI_TABLE_PARAMETERS(fixed, moved, marked)");
+    let written = meaning(&joined, "NGI_WRITTEN");
+    let lines = joined.lines().filter(|line| !line.starts_with('#'));
+    let declared = lines.collect::<Vec<_>>().join("\n");
+    let mut parts = declared.split("NGI_TABLE_PARAMETERS(");
+    let first = parts.next().unwrap().to_string();
+    parts.fold(first, |before, part| {
+        let (words, rest) = part.split_once(')').unwrap();
+        before + &with_words(&tables, &words.replace("NGI_WRITTEN", &written)) + rest
+    })
+}
+
+/// The parameters of the tables with these words, `const` or nothing, for their three kinds.
+fn with_words(tables: &str, words: &str) -> String {
+    let kinds = ["fixed ", "moved ", "marked "].into_iter();
+    let given = kinds.zip(words.split(',').map(str::trim));
+    given.fold(tables.to_string(), |text, (kind, word)| {
+        text.replace(kind, &format!("{word} "))
+    })
 }
 
 fn in_rust(kind: &str) -> String {
@@ -97,7 +110,7 @@ fn calls_declared_here() -> Calls {
 #[test]
 fn every_call_is_declared_as_in_the_header() {
     let calls = calls_of_the_header();
-    assert_eq!(calls.len(), 8);
+    assert_eq!(calls.len(), 10);
     assert_eq!(calls, calls_declared_here());
 }
 

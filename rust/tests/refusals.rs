@@ -164,6 +164,15 @@ fn reason_14_a_long_list() {
 }
 
 #[test]
+fn reason_20_a_pinned_term() {
+    let mut tables = read(TEXT);
+    tables.pin(1, true).unwrap();
+    let before = tables.clone();
+    assert_eq!(reason_of(tables.flip(&[0, 1])), Reason::PinnedTerm);
+    assert_eq!(tables, before);
+}
+
+#[test]
 fn the_program_prints_the_same_reasons() {
     for text in ["a b", "a~b\n", "billabong\n", "", "~ note\n"] {
         let error = refused(text);
@@ -174,9 +183,9 @@ fn the_program_prints_the_same_reasons() {
 }
 
 #[test]
-fn the_reasons_are_numbered_from_1_and_have_words_of_their_own() {
+fn the_reasons_are_in_the_order_of_their_numbers_and_have_words_of_their_own() {
     let numbers = Reason::ALL.map(Reason::number);
-    assert!(numbers.into_iter().eq(1..=Reason::ALL.len() as u32));
+    assert!(numbers.into_iter().eq((1..=15).chain([20])));
     let mut words = Reason::ALL.map(Reason::words).to_vec();
     words.sort_unstable();
     words.dedup();
