@@ -59,7 +59,7 @@ static void take_turns(timed_call *call, uint32_t flips, int calls, double *leas
     }
 }
 
-/* Microseconds for a call: ngi's, the plain version's, and how many times as quick ngi is. */
+/* Microseconds for a call: the first side's, the second's, and how many times as quick the first is. */
 static void print_times(const double *least)
 {
     printf("%.1f %.1f %.2f\n", 1e6 * least[NGI], 1e6 * least[PLAIN], least[PLAIN] / least[NGI]);

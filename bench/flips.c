@@ -1,7 +1,8 @@
 /*
  * Flips through ngi_flip and through the plain C version, on random files of three literals to a clause.
  *
- *   flips check TERMS CLAUSES             gives both the same lists; the status is 0 where answers and tables are the same throughout
+ *   flips check TERMS CLAUSES             gives both the same lists, the last with a pinned term; the status is 0 where answers and tables
+ *                                         are the same throughout, and that list alone is refused
  *   flips time TERMS CLAUSES              flips per second, and microseconds for an empty list: of each ngi_flip's, the plain version's
  *                                         and how many times as quick ngi_flip is
  *   flips run TERMS CLAUSES SIDE FLIPS    one list of at most 4,096 flips by one side, ngi or plain, so that instructions can be counted
@@ -29,16 +30,37 @@ static void draw_list(uint32_t terms, size_t length)
 
 /* --- calls --- */
 
-/* The first flips of the list; a refusal ends the program. */
+/* The first flips of the list. */
+static ngi_flip_answer give(flip_function *flip, struct tables *t, size_t flips)
+{
+    return flip(list, flips, t->terms, t->clauses, t->literals, t->uncovered, NGI_LEND(t->lent));
+}
+
+/* The same, where a refusal ends the program. */
 static void apply(flip_function *flip, struct tables *t, size_t flips)
 {
-    ngi_flip_answer answer = flip(list, flips, t->terms, t->clauses, t->literals, t->uncovered, NGI_LEND(t->lent));
+    ngi_flip_answer answer = give(flip, t, flips);
     if (answer.result != 1)
         fail("the list is refused");
     t->terms = answer.terms;
     t->clauses = answer.clauses;
     t->literals = answer.literals;
     t->uncovered = answer.uncovered;
+}
+
+/* The list whose last term is pinned. */
+static void check_refusal(void)
+{
+    uint16_t last = list[NGI_LIST - 1];
+    ngi_flip_answer pinned = ngi_pin(last, 1, one.terms, one.clauses, one.literals, one.uncovered, NGI_LEND(one.lent)), answer, other_answer;
+    one.uncovered = pinned.uncovered;
+    memcpy(&other, &one, sizeof one);
+    answer = give(ngi_flip, &one, NGI_LIST);
+    other_answer = give(plain_flip, &other, NGI_LIST);
+    if (answer.reason != NGI_PINNED_TERM || memcmp(&answer, &other_answer, sizeof answer) != 0)
+        fail("the two answer differently, or not that a term is pinned");
+    if (memcmp(&one, &other, sizeof one) != 0)
+        fail("the two leave different tables");
 }
 
 static int check(void)
@@ -51,6 +73,7 @@ static int check(void)
         if (memcmp(&one, &other, sizeof one) != 0)
             fail("the two leave different tables");
     }
+    check_refusal();
     return 0;
 }
 

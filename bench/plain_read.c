@@ -11,6 +11,7 @@ struct tables {
     uint64_t *names;
     uint32_t *values;
     uint16_t *starts, *literals, *occurrence_starts, *occurrences, *trues, *breaks, *list, *places;
+    uint8_t *marks;
 };
 
 /* The text from a byte on, the number of its line, and what is known of the terms so far. */
@@ -174,6 +175,7 @@ static void clear(struct tables *t)
     memset(t->breaks, 0, NGI_BREAK_COUNTS_SIZE * sizeof *t->breaks);
     memset(t->list, 0, NGI_UNCOVERED_LIST_SIZE * sizeof *t->list);
     memset(t->places, 0, NGI_PLACES_SIZE * sizeof *t->places);
+    memset(t->marks, 0, NGI_MARKS_SIZE * sizeof *t->marks);
 }
 
 static ngi_read_answer refused(uint32_t reason, uint32_t line)
@@ -202,7 +204,7 @@ static ngi_read_answer read_into(struct tables *t, const uint8_t *text, size_t l
     return (ngi_read_answer){1, NGI_NO_REASON, 0, t->terms, t->clauses, t->literal_count, t->uncovered};
 }
 
-ngi_read_answer plain_read(const uint8_t *text, size_t text_length, NGI_TABLE_PARAMETERS(NGI_WRITTEN))
+ngi_read_answer plain_read(const uint8_t *text, size_t text_length, NGI_TABLE_PARAMETERS(NGI_WRITTEN, NGI_WRITTEN, NGI_WRITTEN))
 {
     struct tables t = {0, 0, 0, 0, TABLES};
     if (!ARE_FULL)

@@ -129,7 +129,8 @@ static int walk_and_report(const uint32_t *numbers, const ngi_read_answer *a)
 {
     struct walker w = {numbers[0], numbers[1], numbers[2], numbers[3], numbers[LINES], 0, 0};
     struct tables t = {a->terms, a->clauses, a->literals, a->uncovered, lent.names, lent.values, lent.starts, lent.literals_table,
-                       lent.occurrence_starts, lent.occurrences, lent.true_counts, lent.break_counts, lent.uncovered_list, lent.places};
+                       lent.occurrence_starts, lent.occurrences, lent.true_counts, lent.break_counts, lent.uncovered_list, lent.places,
+                       lent.marks};
     do
         walk_once(&w, &t);
     while (t.uncovered > 0 && w.walks_begun < w.walks);

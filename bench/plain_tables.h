@@ -14,6 +14,7 @@ struct tables {
     uint32_t *values;
     const uint16_t *starts, *literals, *occurrence_starts, *occurrences;
     uint16_t *trues, *breaks, *list, *places;
+    const uint8_t *marks;
 };
 
 static int is_true(const struct tables *t, uint32_t literal)
@@ -68,16 +69,16 @@ static int starts_fit(const struct tables *t)
     return t->starts[t->clauses] == t->literal_count;
 }
 
-/* A term's mark is one more than the last clause that names it. */
+/* A term's stamp is one more than the last clause that names it. */
 static int literals_fit(const struct tables *t)
 {
-    uint16_t marks[NGI_TERMS] = {0};
+    uint16_t stamps[NGI_TERMS] = {0};
     for (uint32_t clause = 0; clause < t->clauses; clause++)
         for (uint32_t at = t->starts[clause]; at < t->starts[clause + 1]; at++) {
             uint32_t literal = t->literals[at];
-            if (literal >= 2 * t->terms || marks[literal / 2] == clause + 1)
+            if (literal >= 2 * t->terms || stamps[literal / 2] == clause + 1)
                 return 0;
-            marks[literal / 2] = (uint16_t)(clause + 1);
+            stamps[literal / 2] = (uint16_t)(clause + 1);
         }
     return 1;
 }
@@ -138,6 +139,15 @@ static int list_fits(const struct tables *t)
     return uncovered == t->uncovered;
 }
 
+/* Mark 1 is a pin at 0, mark 2 a pin at 1. */
+static int marks_fit(const struct tables *t)
+{
+    for (uint32_t term = 0; term < t->terms; term++)
+        if (t->marks[term] > 2 || (t->marks[term] != 0 && is_true(t, 2 * term) != t->marks[term] - 1))
+            return 0;
+    return 1;
+}
+
 static int zeros(const uint16_t *table, uint32_t from, uint32_t to)
 {
     uint16_t seen = 0;
@@ -146,17 +156,17 @@ static int zeros(const uint16_t *table, uint32_t from, uint32_t to)
     return seen == 0;
 }
 
-static int spare_names_and_values_are_zero(const struct tables *t)
+static int spare_terms_are_zero(const struct tables *t)
 {
     uint64_t seen = 0;
     for (uint32_t term = t->terms; term < NGI_TERMS; term++)
-        seen |= t->names[term] | (t->values[term / 32] >> term % 32 & 1);
+        seen |= t->names[term] | (t->values[term / 32] >> term % 32 & 1) | t->marks[term];
     return seen == 0;
 }
 
 static int rest_is_zero(const struct tables *t)
 {
-    return spare_names_and_values_are_zero(t) && zeros(t->starts, t->clauses + 1, NGI_STARTS_SIZE) &&
+    return spare_terms_are_zero(t) && zeros(t->starts, t->clauses + 1, NGI_STARTS_SIZE) &&
            zeros(t->literals, t->literal_count, NGI_LITERALS_SIZE) &&
            zeros(t->occurrence_starts, 2 * t->terms + 1, NGI_OCCURRENCE_STARTS_SIZE) &&
            zeros(t->occurrences, t->literal_count, NGI_OCCURRENCES_SIZE) && zeros(t->trues, t->clauses, NGI_TRUE_COUNTS_SIZE) &&
@@ -167,7 +177,7 @@ static int rest_is_zero(const struct tables *t)
 static inline int agree(const struct tables *t)
 {
     return counts_fit(t) && names_fit(t) && starts_fit(t) && literals_fit(t) && occurrences_fit(t) && true_and_break_counts_fit(t) &&
-           list_fits(t) && rest_is_zero(t);
+           list_fits(t) && marks_fit(t) && rest_is_zero(t);
 }
 
 /* --- one flip --- */

@@ -14,7 +14,8 @@ static ngi_walk_answer answer(const struct walker *w, const struct tables *t, ui
 }
 
 ngi_walk_answer plain_walk(uint32_t seed, uint32_t flips, uint32_t walks, uint32_t bias, uint32_t even,
-                           uint32_t terms, uint32_t clauses, uint32_t literals, uint32_t uncovered, NGI_TABLE_PARAMETERS(const))
+                           uint32_t terms, uint32_t clauses, uint32_t literals, uint32_t uncovered,
+                           NGI_TABLE_PARAMETERS(const, NGI_WRITTEN, const))
 {
     struct walker w = {seed, flips, walks, bias, even, 0, 0};
     struct tables t = {terms, clauses, literals, uncovered, TABLES};

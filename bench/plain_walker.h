@@ -1,4 +1,4 @@
-/* One walk, for plain walks and for the plain program: the literals at the least break count are collected in an array. */
+/* One walk, for plain walks and for the plain program: the literals that may be chosen are collected in an array. */
 #ifndef PLAIN_WALKER_H
 #define PLAIN_WALKER_H
 
@@ -6,7 +6,7 @@
 
 #include "plain_tables.h"
 
-enum { MOST_FLIPS = 100000, MOST_WALKS = 1000, SURE = 1000, MOST_DRAWS = 8 };
+enum { MOST_FLIPS = 100000, MOST_WALKS = 1000, SURE = 1000, MOST_DRAWS = 8, NO_LITERAL = 2 * NGI_TERMS };
 #define LAST_DRAW 4294967295u
 
 /* The numbers of an order, and how far the walks have come. */
@@ -47,6 +47,14 @@ static void draw_values(struct walker *w, struct tables *t)
         t->values[t->terms / 32] &= ((uint32_t)1 << t->terms % 32) - 1;
 }
 
+/* Each pinned term gets its value in place of the bit drawn for it. */
+static void hold_pinned(struct tables *t)
+{
+    for (uint32_t term = 0; term < t->terms; term++)
+        if (t->marks[term] != 0 && is_true(t, 2 * term) != t->marks[term] - 1)
+            t->values[term / 32] ^= (uint32_t)1 << term % 32;
+}
+
 static void count_afresh(struct tables *t)
 {
     t->uncovered = 0;
@@ -70,47 +78,74 @@ static void count_afresh(struct tables *t)
 
 /* --- a step --- */
 
-/* The least break count of a clause, and the literals that have it, in reading order; how many there are. */
+static int is_free(const struct tables *t, uint32_t literal)
+{
+    return t->marks[literal / 2] == 0;
+}
+
+/* The least break count of a clause's free terms, and the literals that have it, in reading order; how many there are. */
 static uint32_t collect_ties(const struct tables *t, uint32_t clause, uint32_t *least, uint16_t *ties)
 {
     uint32_t count = 0;
     *least = NGI_CLAUSES; /* no break count is above it */
     for (uint32_t at = t->starts[clause]; at < t->starts[clause + 1]; at++) {
         uint32_t breaks = t->breaks[t->literals[at] / 2];
+        if (breaks > *least || !is_free(t, t->literals[at]))
+            continue;
         if (breaks < *least) {
             *least = breaks;
             count = 0;
         }
-        if (breaks == *least)
-            ties[count++] = t->literals[at];
+        ties[count++] = t->literals[at];
     }
     return count;
 }
 
-static uint32_t choose_literal(struct walker *w, const struct tables *t, uint32_t clause)
+/* The same for all literals of free terms, whatever their break counts. */
+static uint32_t collect_free(const struct tables *t, uint32_t clause, uint16_t *free_ones)
 {
-    uint16_t ties[NGI_TERMS];
-    uint32_t least, count = collect_ties(t, clause, &least, ties), start = t->starts[clause];
-    if (least > 0 && draw(w) % SURE < w->bias)
-        return t->literals[start + choose(w, t->starts[clause + 1] - start)];
-    return count == 1 ? ties[0] : ties[choose(w, count)];
+    uint32_t count = 0;
+    for (uint32_t at = t->starts[clause]; at < t->starts[clause + 1]; at++)
+        if (is_free(t, t->literals[at]))
+            free_ones[count++] = t->literals[at];
+    return count;
 }
 
-static void step(struct walker *w, struct tables *t)
+/* NO_LITERAL where the clause has none of a free term. */
+static uint32_t choose_literal(struct walker *w, const struct tables *t, uint32_t clause)
 {
-    uint32_t clause = t->list[choose(w, t->uncovered)];
-    flip(t, choose_literal(w, t, clause) / 2);
+    uint16_t candidates[NGI_TERMS];
+    uint32_t least, count = collect_ties(t, clause, &least, candidates);
+    if (count == 0)
+        return NO_LITERAL;
+    if (least > 0 && draw(w) % SURE < w->bias) {
+        count = collect_free(t, clause, candidates);
+        return candidates[choose(w, count)];
+    }
+    return candidates[count == 1 ? 0 : choose(w, count)];
+}
+
+/* Whether there was a term to flip. */
+static int step(struct walker *w, struct tables *t)
+{
+    uint32_t literal = choose_literal(w, t, t->list[choose(w, t->uncovered)]);
+    if (literal == NO_LITERAL)
+        return 0;
+    flip(t, literal / 2);
     w->flips_made++;
+    return 1;
 }
 
 /* --- a walk --- */
 
 static void walk_once(struct walker *w, struct tables *t)
 {
+    uint32_t left = w->flips;
     draw_values(w, t);
+    hold_pinned(t);
     count_afresh(t);
-    for (uint32_t left = w->flips; left > 0 && t->uncovered > 0; left--)
-        step(w, t);
+    while (left > 0 && t->uncovered > 0 && step(w, t))
+        left--;
     w->walks_begun++;
 }
 

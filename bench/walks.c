@@ -1,8 +1,9 @@
 /*
  * Walks through ngi_walk and through the plain C version. KIND is as in files.h; EVEN is 0 or 1, as the walk takes it.
  *
- *   walks check KIND TERMS CLAUSES EVEN             gives both the same orders, on this file and on an easier one; the status is 0 where
- *                                                   answers and tables are the same throughout, given up on this one, found on the easier
+ *   walks check KIND TERMS CLAUSES EVEN             gives both the same orders, on this file, on this with some terms pinned, and on an easier
+ *                                                   one; the status is 0 where answers and tables are the same throughout, given up on this,
+ *                                                   found on the easier
  *   walks time KIND TERMS CLAUSES EVEN              flips per second, and microseconds for a walk of no flips: of each ngi_walk's, the plain
  *                                                   version's and how many times as quick ngi_walk is
  *   walks run KIND TERMS CLAUSES EVEN SIDE FLIPS    one walk by one side, ngi or plain, so that instructions can be counted; none makes no
@@ -17,7 +18,7 @@
 #include "plain.h"
 
 enum { REFUSED = 0, FOUND = 1, GAVE_UP = 2 };
-enum { SEED = 1, BIAS = 400, SEEDS_CHECKED = 8, FLIPS_TIMED = 100000, WITHOUT_FLIPS_TIMED = 64 };
+enum { SEED = 1, BIAS = 400, SEEDS_CHECKED = 8, PINNED_ONE_IN = 16, FLIPS_TIMED = 100000, WITHOUT_FLIPS_TIMED = 64 };
 
 typedef __typeof__(ngi_walk) walk_function;
 
@@ -59,15 +60,33 @@ static void walk_by_both(struct order o, uint32_t result)
         fail("found, given up or refused where it should not be");
 }
 
+static void walk_by_both_each(const struct order *orders, size_t count, uint32_t result)
+{
+    for (size_t at = 0; at < count; at++)
+        walk_by_both(orders[at], result);
+}
+
+static void pin_some(void)
+{
+    for (uint32_t term = 0; term < one.terms; term += PINNED_ONE_IN) {
+        ngi_flip_answer answer = ngi_pin(term, term / PINNED_ONE_IN % 2, one.terms, one.clauses, one.literals, one.uncovered, NGI_LEND(one.lent));
+        if (answer.result != 1)
+            fail("the pin is refused");
+        one.uncovered = answer.uncovered;
+    }
+}
+
 /* The easier file has a quarter of the clauses, or those that its orphans need. */
 static int check(const char *kind, uint32_t terms, uint32_t clauses)
 {
-    const struct order given_up[] = {{1, 0, 1, 400, even}, {2, 1, 3, 400, even}, {3, 4000, 1, 0, even}, {4, 4000, 2, 400, even}, {4294967295, 4000, 1, 1000, even}};
-    const struct order refused[] = {{0, 1, 1, 400, even}, {1, 100001, 1, 400, even}, {1, 1, 0, 400, even}, {1, 1, 1001, 400, even}, {1, 1, 1, 1001, even}, {1, 1, 1, 400, 2}};
-    for (size_t at = 0; at < sizeof given_up / sizeof *given_up; at++)
-        walk_by_both(given_up[at], GAVE_UP);
-    for (size_t at = 0; at < sizeof refused / sizeof *refused; at++)
-        walk_by_both(refused[at], REFUSED);
+    const struct order given_up[] = {{1, 0, 1, 400, even}, {2, 1, 3, 400, even}, {3, 4000, 1, 0, even}, {4, 4000, 2, 400, even},
+                                     {4294967295, 4000, 1, 1000, even}};
+    const struct order refused[] = {{0, 1, 1, 400, even}, {1, 100001, 1, 400, even}, {1, 1, 0, 400, even}, {1, 1, 1001, 400, even},
+                                    {1, 1, 1, 1001, even}, {1, 1, 1, 400, 2}};
+    walk_by_both_each(given_up, sizeof given_up / sizeof *given_up, GAVE_UP);
+    walk_by_both_each(refused, sizeof refused / sizeof *refused, REFUSED);
+    pin_some();
+    walk_by_both_each(given_up, sizeof given_up / sizeof *given_up, GAVE_UP);
     make_file(&one, kind, terms, clauses / 4);
     for (uint32_t seed = 1; seed <= SEEDS_CHECKED; seed++)
         walk_by_both((struct order){seed, 100000, 1, BIAS, even}, FOUND);
