@@ -10,7 +10,7 @@ import tempfile
 from pathlib import Path
 
 ROOT = Path(__file__).resolve().parent.parent
-CHUNK = 40
+CHUNK = 60
 
 HEAD = """-- Generated calls, computed.
 use Prim.Native.Nat.{ℕ}
@@ -25,14 +25,15 @@ use Rattle.written.specs.declared.Counts.{Counts}
 use Rattle.written.specs.declared.Order.{Order}
 use Rattle.written.specs.Limits.{Limits}
 use Rattle.written.specs.Tables.{Tables, lent}
-use Rattle.written.specs.Outcomes.{Values, readingOf, walkOf, flipsOf, readValues, walkValues, flipValues}
+use Rattle.written.specs.Outcomes.{Leaves, Values, readingOf, walkOf, flipsOf, pinOf, liftOf, readValues, walkValues, flipValues}
 use Rattle.written.specs.Program.{runOf}
 use Rattle.written.specs.Computing.{computing, Example, _tells_, Tells}
 
--- what a call answers and leaves: of a run, its three numbers, the tables and the buffer; of a reader's steps, their numbers
+-- what a call answers and leaves: of a run, its three numbers, the tables, the marks and the buffer; of a reader's steps, their numbers
 pub record Seen : Type 0 where
   pub numbers : List ℕ
   pub tables : Tables
+  pub marks : List ℕ
   pub buffer : List ℕ
 
 abbrev limits : Limits
@@ -44,32 +45,46 @@ counts t c l u = record { terms = t; clauses = c; literals = l; uncovered = u }
 abbrev order : ℕ → ℕ → ℕ → ℕ → ℕ → Order
 order s f w b e = record { seed = s; flips = f; walks = w; bias = b; even = e }
 
-abbrev seen : ℕ → ℕ → ℕ → ℕ → ℕ → Counts → Tables → Seen
-seen r e l w f n t =
-    record { numbers = r ∷ e ∷ l ∷ w ∷ f ∷ n .terms ∷ n .clauses ∷ n .literals ∷ n .uncovered ∷ []; tables = t; buffer = [] }
+abbrev seen : ℕ → ℕ → ℕ → ℕ → ℕ → Counts → Tables → List ℕ → Seen
+seen r e l w f n t ms =
+    record {
+      numbers = r ∷ e ∷ l ∷ w ∷ f ∷ n .terms ∷ n .clauses ∷ n .literals ∷ n .uncovered ∷ [];
+      tables = t;
+      marks = ms;
+      buffer = [];
+    }
 
-abbrev shown : Values → Tables → Seen
-shown v t = seen (v .result) (v .reason) (v .line) (v .walks) (v .flips) (v .counts) t
+abbrev shown : Values → Tables → List ℕ → Seen
+shown v t ms = seen (v .result) (v .reason) (v .line) (v .walks) (v .flips) (v .counts) t ms
 
-abbrev ran : ℕ → ℕ → ℕ → Tables → List ℕ → Seen
-ran r e n t b = record { numbers = r ∷ e ∷ n ∷ []; tables = t; buffer = b }
+abbrev saw : {A : Type 0} → (A → Values) → Leaves A → Seen
+saw values l = shown (values (l .answer)) (l .tables) (l .marks)
 
-abbrev reading : List ℕ → Tables → Seen
-reading x t = shown (readValues (readingOf limits x t .answer)) (readingOf limits x t .tables)
+abbrev ran : ℕ → ℕ → ℕ → Tables → List ℕ → List ℕ → Seen
+ran r e n t ms b = record { numbers = r ∷ e ∷ n ∷ []; tables = t; marks = ms; buffer = b }
 
-abbrev walking : Order → Counts → Tables → Seen
-walking o n t = shown (walkValues (walkOf limits o n t .answer)) (walkOf limits o n t .tables)
+abbrev reading : List ℕ → Tables → List ℕ → Seen
+reading x t ms = saw readValues (readingOf limits x t ms)
 
-abbrev flipping : List ℕ → Counts → Tables → Seen
-flipping ts n t = shown (flipValues (flipsOf limits ts n t .answer)) (flipsOf limits ts n t .tables)
+abbrev walking : Order → Counts → Tables → List ℕ → Seen
+walking o n t ms = saw walkValues (walkOf limits o n t ms)
 
-abbrev running : List ℕ → Tables → List ℕ → Seen
-running x t b =
-    ran (runOf limits x t b .answer .result) (runOf limits x t b .answer .reason) (runOf limits x t b .answer .length)
-        (runOf limits x t b .tables) (runOf limits x t b .buffer)
+abbrev flipping : List ℕ → Counts → Tables → List ℕ → Seen
+flipping ts n t ms = saw flipValues (flipsOf limits ts n t ms)
+
+abbrev pinning : ℕ → ℕ → Counts → Tables → List ℕ → Seen
+pinning k v n t ms = saw flipValues (pinOf limits k v n t ms)
+
+abbrev lifting : ℕ → Counts → Tables → List ℕ → Seen
+lifting k n t ms = saw flipValues (liftOf limits k n t ms)
+
+abbrev running : List ℕ → Tables → List ℕ → List ℕ → Seen
+running x t ms b =
+    ran (runOf limits x t ms b .answer .result) (runOf limits x t ms b .answer .reason) (runOf limits x t ms b .answer .length)
+        (runOf limits x t ms b .tables) (runOf limits x t ms b .marks) (runOf limits x t ms b .buffer)
 
 abbrev stepped : List ℕ → Seen
-stepped ns = record { numbers = ns; tables = lent [] [] [] [] [] [] [] [] [] []; buffer = [] }
+stepped ns = record { numbers = ns; tables = lent [] [] [] [] [] [] [] [] [] []; marks = []; buffer = [] }
 
 -- a step's numbers, before those of the steps after
 abbrev row : Told → List ℕ → List ℕ

@@ -12,7 +12,7 @@ from pathlib import Path
 
 ROOT = Path(__file__).resolve().parent.parent
 SPECS = Path("crates/written/specs")
-TABLES = {"Examples", "Traps", "Calls", "Runs"}
+TABLES = {"Examples", "Traps", "Calls", "Pinned", "Runs"}
 
 # file: (what stands there, what is put there)
 EDITS = {
@@ -36,7 +36,7 @@ EDITS = {
         ('stops (faultAt n BlankLine)', 'goes d'),
         ('stops (faultAt n BlankLine)', 'stops (fault BlankLine)'),
         ('stops (faultAt n BlankLine)', 'drops d'),
-        ('dropped d = record { names = d .names; clauses = d .clauses; line = [] }', 'dropped d = record { names = d .names; clauses = d .clauses; line = d .line }'),
+        ('names = d .names; clauses = d .clauses; line = [] }', 'names = d .names; clauses = d .clauses; line = d .line }'),
         ('cond (has name names) names (names ++ name ∷ [])', 'names ++ name ∷ []'),
     ],
     "Drawing": [
@@ -63,9 +63,20 @@ EDITS = {
         ('ltb 0 (leastBreak s ls)', 'ltb 1 (leastBreak s ls)'),
         ('oneOf o ties (d .next .state)', 'chosenFrom o ls (d .next .state)'),
         ('generator = startState (length (m .state .file .names)) (m .generator)', 'generator = m .generator'),
-        ('step o m = inClause o m (chosenFrom o (m .state .uncovered) (m .generator))', 'step o m = inClause o m (oneOf o (m .state .uncovered) (m .generator))'),
+        ('clausePicked o m = chosenFrom o', 'clausePicked o m = oneOf o'),
         ('generator = p .state; flips = suc (m .flips)', 'generator = p .state; flips = m .flips'),
         ('foundOr (suc n) (onwards', 'foundOr n (onwards'),
+        ('(held ms (startValues (length (m .state .file .names)) (m .generator)))', '(startValues (length (m .state .file .names)) (m .generator))'),
+        ('(start ms m)', '(start [] m)'),
+        ('freeIn ms (getD (m .state .file .clauses) (p .picked) [])', 'getD (m .state .file .clauses) (p .picked) []'),
+        ('eqb (length (lookedAt ms m (clausePicked o m))) 0', 'false'),
+        ('eqb (length (lookedAt ms m (clausePicked o m))) 0', 'eqb (length (lookedAt ms m (clausePicked o m))) 1'),
+        ('generator = clausePicked o m .state; flips = m .flips', 'generator = m .generator; flips = m .flips'),
+        ('generator = clausePicked o m .state; flips = m .flips', 'generator = clausePicked o m .state; flips = suc (m .flips)'),
+        ('cond (isStuck o ms m) (stuckAt o m)', 'cond (isStuck o ms m) (onwards o ms k (stuckAt o m))'),
+        ('(onwards o ms k (step o ms m))', '(onwards o [] k (step o ms m))'),
+        ('walksFrom o ms k (suc n) e', 'walksFrom o [] k (suc n) e'),
+        ('walksFrom o ms (o .walks) 0', 'walksFrom o [] (o .walks) 0'),
     ],
     "Sheet": [
         ('leb (length ds) 10', 'leb (length ds) 11'),
@@ -125,12 +136,98 @@ EDITS = {
         ('same (u .values) (inUse s .values)\n    && ', ''),
         ('\n    && all (λ c. has c (s .uncovered) || eqb (getD (u .places) c 0) 0) (below (n .clauses))', ''),
     ],
+    "Marks": [
+        ('isFree ms t = eqb (getD ms t 0) 0', 'isFree ms t = eqb (getD ms t 0) 1'),
+        ('isFree ms t = eqb (getD ms t 0) 0', 'isFree ms t = leb (getD ms t 0) 1'),
+        ('those (λ l. isFree ms (termOf l)) ls', 'ls'),
+        ('isFree ms (termOf l)', 'isFree ms l'),
+        ('cond (eqb m 0) v', 'cond (eqb m 0) 0'),
+        ('cond (eqb m 1) 0 1', 'cond (eqb m 1) 1 0'),
+        ('cond (eqb m 1) 0 1', 'cond (eqb m 1) 0 v'),
+        ('cond (eqb m 1) 0 1', 'cond (eqb m 1) v 1'),
+        ('listOf (length vs) (λ t. heldAt (getD ms t 0) (getD vs t 0))', 'vs'),
+        ('leb (lim .terms) (length ms)', 'eqb (lim .terms) (length ms)'),
+        ('leb (lim .terms) (length ms)', 'leb (lim .clauses) (length ms)'),
+        ('areFull lim t && marksFull lim ms', 'areFull lim t'),
+        ('areFull lim t && marksFull lim ms', 'marksFull lim ms'),
+        ('over (zeros (lim .terms)) ms', 'ms'),
+        ('over (zeros (lim .terms)) ms', 'zeros (lim .terms)'),
+        ('over (zeros (lim .terms)) ms', 'zeros (length ms)'),
+        ('over (zeros (lim .terms)) ms', 'over (zeros (lim .clauses)) ms'),
+        ('leb (getD ms t 0) 2 && ', ''),
+        ('leb (getD ms t 0) 2', 'leb (getD ms t 0) 3'),
+        (' && eqb (getD vs t 0) (heldAt (getD ms t 0) (getD vs t 0))', ''),
+        ('(below (length vs))', '(below (length ms))'),
+        ('drop (n .terms) (take (lim .terms) ms)', 'drop (n .terms) ms'),
+        ('drop (n .terms) (take (lim .terms) ms)', 'drop (n .clauses) (take (lim .terms) ms)'),
+        ('drop (n .terms) (take (lim .terms) ms)', 'take (lim .terms) ms'),
+        ('drop (n .terms) (take (lim .terms) ms)', 'drop (n .terms) (take (lim .clauses) ms)'),
+        ('agree lim n t && ', ''),
+        (' && marksHold ms (stateIn n t .values)', ''),
+        (' && marksRest lim n ms', ''),
+    ],
     "Outcomes": [
-        ('tables = cleared lim t }', 'tables = t }'),
-        ('(cond (ltb (lim .list) (length ts)) (flipsRefused n t ListTooLong)\n    (cond (not (agree lim n t)) (flipsRefused n t TablesDisagree)', '(cond (not (agree lim n t)) (flipsRefused n t TablesDisagree)\n    (cond (ltb (lim .list) (length ts)) (flipsRefused n t ListTooLong)'),
-        ('(cond (not (inRange o)) (walkRefused n t OutOfRange)\n    (cond (not (agree lim n t)) (walkRefused n t TablesDisagree)', '(cond (not (agree lim n t)) (walkRefused n t TablesDisagree)\n    (cond (not (inRange o)) (walkRefused n t OutOfRange)'),
+        ('tables = holding lim (asRead f) t; marks = unmarked lim ms }', 'tables = holding lim (asRead f) t; marks = ms }'),
+        ('tables = cleared lim t; marks = unmarked lim ms }', 'tables = t; marks = unmarked lim ms }'),
+        ('tables = cleared lim t; marks = unmarked lim ms }', 'tables = cleared lim t; marks = ms }'),
+        ('tables = holding lim (e .last .state) t; marks = ms }', 'tables = holding lim (e .last .state) t; marks = unmarked lim ms }'),
+        ('walkOver o ms (fileIn n t)', 'walkOver o [] (fileIn n t)'),
+        ('tables = holding lim s t; marks = ms }', 'tables = holding lim s t; marks = unmarked lim ms }'),
+        ('not (all (isFree ms) ts)', 'not (all (isFree []) ts)'),
+        ('flipsRefused n t ms PinnedTerm', 'flipsRefused n t ms UnknownTerm'),
+        (
+            '(cond (not (all (λ v. ltb v (n .terms)) ts)) (flipsRefused n t ms UnknownTerm)\n'
+            '    (cond (not (all (isFree ms) ts)) (flipsRefused n t ms PinnedTerm)',
+            '(cond (not (all (isFree ms) ts)) (flipsRefused n t ms PinnedTerm)\n'
+            '    (cond (not (all (λ v. ltb v (n .terms)) ts)) (flipsRefused n t ms UnknownTerm)',
+        ),
+        (
+            'cond (not (fullMarked lim t ms)) (flipsRefused n t ms TableTooShort)\n'
+            '    (cond (not (agreeMarked lim n t ms)) (flipsRefused n t ms TablesDisagree)\n    (cond (not (ltb',
+            'cond (not (agreeMarked lim n t ms)) (flipsRefused n t ms TablesDisagree)\n'
+            '    (cond (not (fullMarked lim t ms)) (flipsRefused n t ms TableTooShort)\n    (cond (not (ltb',
+        ),
+        (
+            '(cond (not (agreeMarked lim n t ms)) (flipsRefused n t ms TablesDisagree)\n'
+            '    (cond (not (ltb k (n .terms))) (flipsRefused n t ms UnknownTerm)',
+            '(cond (not (ltb k (n .terms))) (flipsRefused n t ms UnknownTerm)\n'
+            '    (cond (not (agreeMarked lim n t ms)) (flipsRefused n t ms TablesDisagree)',
+        ),
+        ('not (ltb k (n .terms))', 'not (ltb k (lim .terms))'),
+        ('cond (eqb v 0) 0 1', 'cond (eqb v 1) 1 0'),
+        ('cond (eqb v 0) 0 1', 'v'),
+        ('cond (eqb (getD (s .values) k 0) v) [] (k ∷ [])', 'k ∷ []'),
+        ('cond (eqb (getD (s .values) k 0) v) [] (k ∷ [])', '[]'),
+        ('cond (eqb (getD (s .values) k 0) v) [] (k ∷ [])', 'cond (ltb (getD (s .values) k 0) v) (k ∷ []) []'),
+        ('cond (eqb (getD (s .values) k 0) v) [] (k ∷ [])', 'cond (ltb v (getD (s .values) k 0)) (k ∷ []) []'),
+        ('set ms k (1 + valueAsked v)', 'ms'),
+        ('set ms k (1 + valueAsked v)', 'set ms k (2 + valueAsked v)'),
+        ('flipsFor k (valueAsked v)', 'flipsFor k v'),
+        ('set ms k 0', 'ms'),
+        ('set ms k 0', 'unmarked lim ms'),
+        (
+            '(cond (ltb (lim .list) (length ts)) (flipsRefused n t ms ListTooLong)\n'
+            '    (cond (not (agreeMarked lim n t ms)) (flipsRefused n t ms TablesDisagree)',
+            '(cond (not (agreeMarked lim n t ms)) (flipsRefused n t ms TablesDisagree)\n'
+            '    (cond (ltb (lim .list) (length ts)) (flipsRefused n t ms ListTooLong)',
+        ),
+        (
+            '(cond (not (inRange o)) (walkRefused n t ms OutOfRange)\n'
+            '    (cond (not (agreeMarked lim n t ms)) (walkRefused n t ms TablesDisagree)',
+            '(cond (not (agreeMarked lim n t ms)) (walkRefused n t ms TablesDisagree)\n'
+            '    (cond (not (inRange o)) (walkRefused n t ms OutOfRange)',
+        ),
         ('ltb (lim .list) (length ts)', 'ltb (length ts) (lim .list)'),
         ('(λ v. ltb v (n .terms))', '(λ v. ltb v (lim .terms))'),
+    ],
+    "Program": [
+        ('marksAfter lim ms (unbegun a) = ms', 'marksAfter lim ms (unbegun a) = unmarked lim ms'),
+        ('marksAfter lim ms (unread e) = unmarked lim ms', 'marksAfter lim ms (unread e) = ms'),
+        ('marksAfter lim ms (walked r) = unmarked lim ms', 'marksAfter lim ms (walked r) = ms'),
+        ('not (fullMarked lim t ms) || ', ''),
+        ('marks = ms; buffer = b }', 'marks = unmarked lim ms; buffer = b }'),
+        (' || ltb (length b) (reportSize lim)', ''),
+        ('10 * lim .terms + 64', '10 * lim .terms + 63'),
     ],
 }
 
