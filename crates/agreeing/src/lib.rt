@@ -1,5 +1,8 @@
 // Whether lent tables agree (reason 12), for any contents, any lengths and any counts; nothing is changed. The points are tested in the
 // document's order, and a function here may ask what the points before it have shown.
+
+#![tactic(auto)]
+
 ghost use Rattle.std.specs.Prelude.{◌≡◌, true, ◌&&◌};
 ghost use Rattle.written.specs.Limits.{narrow};
 ghost use Rattle.written.specs.Tables.{are_full};

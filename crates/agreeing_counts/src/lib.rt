@@ -1,5 +1,8 @@
 // Whether the true, break and uncovered counts, and the list, are those of the file and the values; nothing is changed.
 // A function that another crate of the library calls may ask what the points before it have shown, which its caller proves; none is exported.
+
+#![tactic(auto)]
+
 ghost use Rattle.std.specs.Prelude.{◌≡◌, ◌≤◌, ◌<◌, length, take, eqb};
 ghost use Rattle.written.specs.Lists.{all, below};
 ghost use Rattle.written.specs.Agreement.{part_of};

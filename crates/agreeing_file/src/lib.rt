@@ -1,5 +1,8 @@
 // Whether names, starts, literals and occurrences hold a file: these points of agreement, in the document's order; nothing is changed.
 // A function that another crate of the library calls may ask what the points before it have shown, which its caller proves; none is exported.
+
+#![tactic(auto)]
+
 ghost use Rattle.std.specs.Prelude.{◌≡◌, true, ◌&&◌, [], ℕ, ◌*◌, ◌≤◌, ◌<◌, length, get_or, take};
 ghost use Rattle.written.specs.Lists.{all, differ, steps};
 ghost use Rattle.written.specs.Limits.{narrow};

@@ -1,5 +1,8 @@
 // Whether the rest of each table, past the entries in use up to the full size, is 0, spare value bits too; nothing is changed.
 // A function that another crate of the library calls may ask what the points before it have shown, which its caller proves; none is exported.
+
+#![tactic(auto)]
+
 ghost use Rattle.std.specs.Prelude.{◌≡◌, true, ◌&&◌, ◌≤◌, length, take, eqb};
 ghost use Rattle.words.specs.Words.{word_count};
 ghost use Rattle.written.specs.Lists.{all};

@@ -8,7 +8,7 @@ use draw::{Drawn, Generator};
 
 // Reason 0, or 11 with the number 0 and the state as it was.
 #[repr(C)]
-#[derive(Drop)]
+#[derive(Clone, Copy)]
 pub struct DrawAnswer {
     pub reason: u32,
     pub number: u32,

@@ -6,7 +6,7 @@ use written::Flipped;
 
 // Result 1 is applied, 0 refused; reason 0 where there is none.
 #[repr(C)]
-#[derive(Drop)]
+#[derive(Clone, Copy)]
 pub struct FlipAnswer {
     pub result: u32,
     pub reason: u32,

@@ -6,7 +6,7 @@ use written::Read;
 
 // Result 1 is accepted, 0 refused; reason 0 where there is none; the line of the fault, 0 where it has none.
 #[repr(C)]
-#[derive(Drop)]
+#[derive(Clone, Copy)]
 pub struct ReadAnswer {
     pub result: u32,
     pub reason: u32,

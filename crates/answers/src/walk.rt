@@ -6,7 +6,7 @@ use written::{Tour, Walked};
 
 // Result 1 is found, 2 gave up, 0 refused; reason 0 where there is none.
 #[repr(C)]
-#[derive(Drop)]
+#[derive(Clone, Copy)]
 pub struct WalkAnswer {
     pub result: u32,
     pub reason: u32,

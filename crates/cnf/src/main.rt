@@ -1,5 +1,8 @@
 // The program for numbered files: an order sheet and numbered text from standard input, the result lines in the form of the solvers' competition to
 // standard output. An input that could not be read whole has no result.
+
+#![tactic(auto)]
+
 use written::Form;
 
 fn main() {

@@ -1,4 +1,7 @@
 // Bytes by their form: whether they begin with a key, whether they are a number in decimal, and what that says.
+
+#![tactic(auto)]
+
 ghost use Rattle.std.specs.Prelude.{◌≡◌, true};
 ghost use Rattle.written.specs.Lists.{all};
 ghost use Rattle.written.specs.Sheet.{begins, is_digit, is_number, value_of_digits};

@@ -1,17 +1,20 @@
 // Drawing and choosing: a generator by value, whose methods hand back the number and the next state.
+
+#![tactic(auto)]
+
 ghost use Rattle.std.specs.Prelude.{◌≡◌};
 ghost use Rattle.draw.specs.Xorshift.{next_of};
 ghost use Rattle.draw.specs.Draw.{refused_at, drawn_to, draw_of, choice_of, heads_of};
 
 pub mod even;
 
-#[derive(Drop)]
+#[derive(Clone, Copy)]
 pub struct Generator {
     pub state: u32,
 }
 
 // A number that was asked for: reason 0, or 11 with the number 0 and the state as it was.
-#[derive(Drop)]
+#[derive(Clone, Copy)]
 pub struct Drawn {
     pub reason: u32,
     pub number: u32,

@@ -1,5 +1,8 @@
 // Document 01's examples, each as its words and then what the program prints for it.
 // Texts are made in a buffer; a function that goes on from a place of it asks that the place is within.
+
+#![tactic(auto)]
+
 ghost use Rattle.std.specs.Prelude.{◌≤◌, length};
 
 use written::Form;

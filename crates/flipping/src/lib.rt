@@ -1,5 +1,8 @@
 // The flip of a term on the lent tables while walking. No clause is read: the place of a covered clause is the xor of the terms of its true literals.
 // A function that another crate of the library calls may ask something of its tables, by one record, which its caller proves; none is exported.
+
+#![tactic(auto)]
+
 ghost use Rattle.std.specs.Prelude.{◌≡◌, ◌+◌, ◌-◌, ◌≤◌, ◌<◌, length, get_or, set};
 ghost use Rattle.written.specs.Lists.{steps};
 ghost use Rattle.machine.specs.Uncovered.{uncovered, leaves, CanLeave};

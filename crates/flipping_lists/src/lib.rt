@@ -1,4 +1,7 @@
 // Flip lists: applied whole or refused whole; and the flips of a list on tables that are known to agree.
+
+#![tactic(auto)]
+
 ghost use Rattle.std.specs.Prelude.{◌≡◌, [], ltb};
 ghost use Rattle.written.specs.declared.Flipped.TheVariants.{Applied};
 ghost use Rattle.written.specs.Lists.{all};

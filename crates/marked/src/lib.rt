@@ -1,5 +1,8 @@
 // The lent tables with the marks of terms, for any contents, any lengths and any counts: whether they are full and agree (reason 12). Nothing is changed.
 // The functions that are not lent the ten tables may ask what the tests before them have shown.
+
+#![tactic(auto)]
+
 ghost use Rattle.std.specs.Prelude.{◌≡◌, ◌&&◌, ◌≤◌, length, eqb};
 ghost use Rattle.words.specs.Words.{bit_at};
 ghost use Rattle.written.specs.Lists.{all, list_of};

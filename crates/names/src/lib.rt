@@ -1,12 +1,15 @@
 // Names to term numbers by slots: a slot holds 0, or a term's number counted from 1. A name has a home among the first slots, and is looked for
 // from there upwards; there are as many slots after the homes as there may be names, and one more, so no search comes to the end.
+
+#![tactic(auto)]
+
 ghost use Rattle.std.specs.Prelude.{◌≡◌, ◌+◌, ◌≤◌, ◌<◌, length, take, set};
 ghost use Rattle.written.specs.Limits.{narrow};
 ghost use Rattle.machine.specs.Slots.{home_of, Indexed};
 ghost use Rattle.names.specs.Finding.{homes, Finds};
 
 // How a name is found: at a term, or missing, with the slot where it would go.
-#[derive(Drop)]
+#[derive(Clone, Copy)]
 pub enum Found {
     At(usize),
     New(usize),

@@ -1,4 +1,7 @@
 // The boundary: the library's calls under C names, with numbers, slices and plain structs. Thin: each call hands on what `answers` makes of its answer.
+
+#![tactic(auto)]
+
 pub mod draws;
 pub mod flip;
 pub mod numbered;

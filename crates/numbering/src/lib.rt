@@ -1,5 +1,8 @@
 // A numbered clause file drafted into lent tables: the names of its variables, and then its numbers, one after another, into starts and literals.
 // A literal is placed as in clause text, with stamps for the way; the slots are not used, since a term's number is its variable's less 1.
+
+#![tactic(auto)]
+
 ghost use Rattle.std.specs.Prelude.{◌≡◌, ◌^◌, ◌≤◌, ◌<◌, length};
 ghost use Rattle.written.specs.Limits.{narrow};
 ghost use Rattle.written.specs.Tables.{over};
@@ -16,7 +19,7 @@ use scan::Cursor;
 use written::{Fault, Headed, Header, Numeral, Reason, Signed};
 
 // How far a draft has come, whether its open clause is dropped, and how many clauses have ended, those dropped too.
-#[derive(Drop)]
+#[derive(Clone, Copy)]
 pub struct Going {
     pub ended: u64,
     pub place: Place,
@@ -24,7 +27,7 @@ pub struct Going {
 }
 
 // Where a number leads: on, to the text's end with a clause kept, or to a fault.
-#[derive(Drop)]
+#[derive(Clone, Copy)]
 pub enum Pass {
     On(Going),
     Whole(Place),

@@ -1,5 +1,8 @@
 // The text of a numbered clause file, word by word: the comments before its header, the header, and one number after another. No tables.
 // The functions are called inside the library, on a text that is short enough for its places and lines to be counted.
+
+#![tactic(auto)]
+
 ghost use Rattle.std.specs.Prelude.{◌≡◌, ◌+◌, ◌^◌, ◌≤◌, ◌<◌, cond, length, eqb};
 ghost use Rattle.scan.specs.Scan.{start};
 ghost use Rattle.written.specs.Numerals.{past_comments, sizes_at, header_at, past_gaps, number_at};
@@ -113,7 +116,7 @@ fn past_gaps(text: &[u8], c: Cursor) -> Cursor
 }
 
 // Where digits end, and the number that they are.
-#[derive(Drop)]
+#[derive(Clone, Copy)]
 struct Digits {
     end: usize,
     number: u64,

@@ -1,5 +1,8 @@
 // The literals turned round: from the clauses, for each literal the clauses in which it stands.
 // A function that another crate of the library calls may ask something of its tables, by one record, which its caller proves; none is exported.
+
+#![tactic(auto)]
+
 ghost use Rattle.std.specs.Prelude.{◌≡◌, ◌<◌, length, set};
 ghost use mathlib.Core.List.{flatten};
 ghost use Rattle.written.specs.Lists.{steps};

@@ -1,5 +1,8 @@
 // Bytes put into a lent buffer: a byte, a number in decimal, a name, a line. Each function takes the place of the next byte and gives the place after.
 // Each asks that what it writes fits, by one record, which its caller proves; none is exported.
+
+#![tactic(auto)]
+
 ghost use Rattle.std.specs.Prelude.{◌≡◌, ◌∷◌, []};
 ghost use Rattle.written.specs.Printed.{decimal, name_of, signed};
 ghost use Rattle.pages.specs.Pages.{page, put, keyed, CanPut};

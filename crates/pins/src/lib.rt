@@ -1,4 +1,7 @@
 // One term pinned at a value, or its pin lifted: done whole, or refused with nothing changed.
+
+#![tactic(auto)]
+
 ghost use Rattle.std.specs.Prelude.{◌≡◌, [], ◌∷◌, ◌+◌, ◌<◌, length, set};
 ghost use Rattle.written.specs.declared.Flipped.TheVariants.{Applied};
 ghost use Rattle.written.specs.Limits.{narrow};

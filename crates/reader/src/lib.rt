@@ -1,12 +1,15 @@
 // A reader over lent clause text: a struct that holds the text, the place and the line, and thin functions over it. Each takes
 // the struct apart and calls a covered function of `scan` on the slice and the numbers.
+
+#![tactic(auto)]
+
 ghost use Rattle.std.specs.Prelude.{◌≡◌};
 ghost use Rattle.scan.specs.Scan.{scan, passed, cursor_at, rest_at, told_of};
 ghost use Rattle.reader.specs.Held.{step_of, after};
 
 use scan::{Cursor, Step, Token, Told};
 
-#[derive(Drop)]
+#[derive(Clone, Copy)]
 pub struct Reader<'a> {
     pub text: &'a [u8],
     pub at: usize,

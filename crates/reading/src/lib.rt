@@ -1,4 +1,7 @@
 // A text of either form read into the lent tables: they are cleared, a draft is made in some of the ten, and the others are worked out from it; no term is marked.
+
+#![tactic(auto)]
+
 ghost use Rattle.std.specs.Prelude.{◌≡◌, true, []};
 ghost use Rattle.written.specs.Limits.{narrow};
 ghost use Rattle.written.specs.Numbered.{read_as};

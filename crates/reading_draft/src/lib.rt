@@ -1,4 +1,7 @@
 // A text of either form drafted into cleared tables: clause text by its tokens, numbered text by its numbers.
+
+#![tactic(auto)]
+
 ghost use Rattle.written.specs.Limits.{narrow};
 ghost use Rattle.written.specs.Numbered.{read_by};
 ghost use Rattle.reading_lines.specs.Drafting.{desk_at, desk_before, desk_after};

@@ -1,5 +1,8 @@
 // The ends of a reading: the tests of a text as a whole, the tables cleared, and a whole draft worked out into tables at values of 0.
 // A function that another crate of the library calls may ask what its caller proves; none is exported.
+
+#![tactic(auto)]
+
 ghost use Rattle.std.specs.Prelude.{◌≡◌, ◌≤◌, length};
 ghost use Rattle.written.specs.Limits.{narrow};
 ghost use Rattle.machine.specs.Moving.{fixed_at, fixed_before, fixed_after, moving_at, moving_before, moving_after};

@@ -1,4 +1,7 @@
 // Clause text read token by token into a draft in lent tables: names, starts and literals, with stamps and slots for the way.
+
+#![tactic(auto)]
+
 ghost use Rattle.std.specs.Prelude.{◌≡◌, ◌<◌, ◌^◌, length};
 ghost use Rattle.scan.specs.Scan.{line_of};
 ghost use Rattle.written.specs.Limits.{narrow};
@@ -14,7 +17,7 @@ use scan::{Cursor, Token};
 use written::{Fault, Reason};
 
 // How far a draft has come: terms known, clauses kept, and the literals held, of which the open line's begin at `from`.
-#[derive(Drop)]
+#[derive(Clone, Copy)]
 pub struct Place {
     pub terms: usize,
     pub clauses: usize,
@@ -23,7 +26,7 @@ pub struct Place {
 }
 
 // Where a token leads: on, past the rest of a line that is dropped, to the text's end with a clause kept, or to a fault.
-#[derive(Drop)]
+#[derive(Clone, Copy)]
 pub enum Next {
     Goes(Place),
     Drops(Place),
@@ -32,7 +35,7 @@ pub enum Next {
 }
 
 // What a text comes to.
-#[derive(Drop)]
+#[derive(Clone, Copy)]
 pub enum Ended {
     Whole(Place),
     Refused(Fault),

@@ -1,5 +1,8 @@
 // One literal of clause text taken into the open line: its name looked up by the slots, repeats and opposites seen by stamps. A stamp is the
 // place of its term's latest literal, believed only if that place is in the open line and holds a literal of the term: stamps need no start value.
+
+#![tactic(auto)]
+
 ghost use Rattle.std.specs.Prelude.{◌≡◌, ◌<◌, length, set};
 ghost use Rattle.written.specs.Limits.{narrow};
 ghost use Rattle.written.specs.Clauses.{literal_of};
@@ -10,7 +13,7 @@ ghost use Rattle.reading_literal.specs.Taking.{placing, placed, CanPlace, by_slo
 use names::Found;
 
 // Whether a line has a literal already, or its opposite.
-#[derive(Drop)]
+#[derive(Clone, Copy)]
 pub enum Stands {
     Not,
     Same,
@@ -18,7 +21,7 @@ pub enum Stands {
 }
 
 // What becomes of a literal that is read: held, held with a new term, skipped, its line dropped, or one too many.
-#[derive(Drop)]
+#[derive(Clone, Copy)]
 pub enum Taken {
     Held,
     Grown,

@@ -1,4 +1,7 @@
 // The number of each reason, as the answers carry it over the boundary and in print.
+
+#![tactic(auto)]
+
 ghost use Rattle.std.specs.Prelude.{◌≡◌};
 ghost use Rattle.written.specs.Reasons.{number_of};
 

@@ -1,5 +1,8 @@
 // The counts of the clauses worked out afresh, and the places of the covered clauses made those for walking and back.
 // A function that another crate of the library calls may ask something of its tables, by one record, which its caller proves; none is exported.
+
+#![tactic(auto)]
+
 ghost use Rattle.std.specs.Prelude.{◌≡◌, ◌<◌, length, get_or, set};
 ghost use Rattle.machine.specs.Moving.{view, CanPart};
 ghost use Rattle.machine.specs.Passes.{rewritten, walk_place, rest_place, CanOpen, CanClose, count_one, CanCount, blank, counted, CanCountAll, CanRecount};

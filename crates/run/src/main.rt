@@ -1,4 +1,7 @@
 // The program: an order sheet and clause text from standard input, the result lines to standard output. An input that could not be read whole has no result.
+
+#![tactic(auto)]
+
 use written::Form;
 
 fn main() {

@@ -1,5 +1,8 @@
 // The programs' whole work on lent memory: an order sheet and a text of either form in, the result lines out.
 // `begin` asks something of its tables and of the buffer by one record, which its caller proves; `run_sheet` asks nothing.
+
+#![tactic(auto)]
+
 ghost use Rattle.std.specs.Prelude.{◌≡◌};
 ghost use Rattle.written.specs.Limits.{narrow};
 ghost use Rattle.written.specs.Lending.{lent_at, lent_before, lent_after};

@@ -1,4 +1,7 @@
 // A program's whole work with tables of its own: they take 162 KB of stack.
+
+#![tactic(auto)]
+
 ghost use Rattle.std.specs.Prelude.{◌≡◌, ◌≤◌, length};
 ghost use Rattle.written.specs.Limits.{narrow};
 ghost use Rattle.written.specs.Program.{printed_as, report_size};

@@ -1,5 +1,8 @@
 // What is printed by the form of the text: our own lines, or the competition's.
 // Each function asks that what it writes fits, by one record, which its caller proves; none is exported.
+
+#![tactic(auto)]
+
 ghost use Rattle.std.specs.Prelude.{◌≡◌};
 ghost use Rattle.written.specs.Limits.{narrow};
 ghost use Rattle.written.specs.Competition.{refusal_as};

@@ -1,4 +1,7 @@
 // An input before any table is touched: too long, refused by its sheet, or an order and the place where its text begins.
+
+#![tactic(auto)]
+
 ghost use Rattle.std.specs.Prelude.{◌≡◌};
 ghost use Rattle.written.specs.Limits.{narrow};
 ghost use Rattle.running_input.specs.Outsets.{outset_of};
@@ -6,7 +9,7 @@ ghost use Rattle.running_input.specs.Outsets.{outset_of};
 use written::{Fault, Ordered, Reason, Sheet};
 
 // How a run sets out.
-#[derive(Drop)]
+#[derive(Clone, Copy)]
 pub enum Outset {
     Long(Fault),
     Refused(Fault),

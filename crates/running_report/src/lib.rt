@@ -1,5 +1,8 @@
 // The lines that are printed, as bytes in a lent buffer.
 // Each function asks that what it writes fits, by one record, which its caller proves; none is exported.
+
+#![tactic(auto)]
+
 ghost use Rattle.std.specs.Prelude.{◌≡◌};
 ghost use Rattle.written.specs.Limits.{narrow};
 ghost use Rattle.written.specs.Printed.{refusal};

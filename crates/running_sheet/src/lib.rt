@@ -1,4 +1,7 @@
 // The order sheet: four lines of a key and a number, judged from the top, and a fifth that may follow them.
+
+#![tactic(auto)]
+
 ghost use Rattle.std.specs.Prelude.{◌≡◌, ◌+◌, ◌^◌, ◌<◌};
 ghost use Rattle.written.specs.Sheet.{sheet_of};
 ghost use Rattle.laws.specs.Sheets.{four_lines, in_mode};
@@ -7,14 +10,14 @@ ghost use Rattle.running_sheet.specs.Lines.{range, line_of, refused_at};
 use written::{Fault, Order, Ordered, Reason, Sheet};
 
 // A line's number, and how many bytes it takes with its byte 10.
-#[derive(Drop)]
+#[derive(Clone, Copy)]
 struct Entry {
     number: u32,
     size: usize,
 }
 
 // What a line comes to.
-#[derive(Drop)]
+#[derive(Clone, Copy)]
 enum Verdict {
     Taken(Entry),
     Faulty(Reason),

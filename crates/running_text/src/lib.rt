@@ -1,5 +1,8 @@
 // A text of either form read and walked over, with no term pinned, and the result lines in a lent buffer.
 // A function that asks something of its tables or of the buffer does so by one record, which its caller proves.
+
+#![tactic(auto)]
+
 ghost use Rattle.std.specs.Prelude.{◌≡◌, []};
 ghost use Rattle.written.specs.Limits.{narrow};
 ghost use Rattle.written.specs.Lending.{lent_at, lent_before, lent_after};

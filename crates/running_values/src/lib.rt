@@ -1,5 +1,8 @@
 // What is printed for a numbered file, in the form of the solvers' competition, as bytes in a lent buffer.
 // Each function asks that what it writes fits, by one record, which its caller proves; none is exported.
+
+#![tactic(auto)]
+
 ghost use Rattle.std.specs.Prelude.{◌≡◌, ◌≤◌};
 ghost use Rattle.words.specs.Words.{bit_at};
 ghost use Rattle.written.specs.declared.Form.TheVariants.{Numbered};

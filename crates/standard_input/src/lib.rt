@@ -1,8 +1,11 @@
 // Standard input, read whole or up to one byte more than a program takes.
+
+#![tactic(auto)]
+
 ghost use Rattle.std.specs.Prelude.{◌≤◌, length};
 
 // How many bytes were read, and what the last call of `read` answered.
-#[derive(Drop)]
+#[derive(Clone, Copy)]
 pub struct Seen {
     pub read: usize,
     pub last: isize,

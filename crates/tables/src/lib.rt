@@ -1,5 +1,8 @@
 // The lent tables: whether they are full, how a clause and a literal are read from them, and what is done to one in one place or from its start on.
 // A function that another crate of the library calls may ask something of its tables, by one record, which its caller proves; none is exported.
+
+#![tactic(auto)]
+
 ghost use Rattle.std.specs.Prelude.{◌≡◌};
 ghost use Rattle.written.specs.Lists.{total};
 ghost use Rattle.written.specs.Limits.{narrow};

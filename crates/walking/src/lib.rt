@@ -1,5 +1,8 @@
 // Walks on tables that have been tested: found or given up.
 // A function that another crate of the library calls may ask something of its tables, by one record, which its caller proves; none is exported.
+
+#![tactic(auto)]
+
 ghost use Rattle.std.specs.Prelude.{◌≡◌, false, cond, ltb, ◌^◌};
 ghost use Rattle.written.specs.Limits.{narrow};
 ghost use Rattle.written.specs.Lending.{lent_at, lent_before, lent_after};
@@ -15,7 +18,7 @@ use walking_steps::At;
 use written::{Counts, Order, Tour, Walked};
 
 // How the walks end: found or not, walks begun, and where they stand.
-#[derive(Drop)]
+#[derive(Clone, Copy)]
 struct Ended {
     found: bool,
     walks: u32,

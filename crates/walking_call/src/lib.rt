@@ -1,4 +1,7 @@
 // The call of a walk: its tests, then the walks, or a refusal.
+
+#![tactic(auto)]
+
 ghost use Rattle.std.specs.Prelude.{◌≡◌};
 ghost use Rattle.written.specs.Limits.{narrow};
 ghost use Rattle.written.specs.Lending.{lent_before, lent_after};

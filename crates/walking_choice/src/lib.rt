@@ -1,5 +1,8 @@
 // The choices of a walk: an entry of a list, and the literal of a clause whose term is flipped, among those of free terms.
 // A function that another crate of the library calls may ask something of its tables, by one record, which its caller proves; none is exported.
+
+#![tactic(auto)]
+
 ghost use Rattle.std.specs.Prelude.{◌≡◌, cond, ◌+◌, ◌/◌, ◌^◌, ◌<◌, length, get_or};
 ghost use Rattle.written.specs.Marks.{free_in};
 ghost use Rattle.written.specs.Drawing.{choice, chosen_from};
@@ -11,14 +14,14 @@ use draw::{Drawn, Generator};
 use written::Order;
 
 // An entry that was picked, and the generator afterwards.
-#[derive(Drop)]
+#[derive(Clone, Copy)]
 pub struct Picked {
     pub entry: u16,
     pub next: Generator,
 }
 
 // The least break count among the literals of free terms looked at, how many are at it, and the first of them; number 0 where there are none.
-#[derive(Drop)]
+#[derive(Clone, Copy)]
 pub struct Least {
     pub low: u32,
     pub number: usize,

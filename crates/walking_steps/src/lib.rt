@@ -1,6 +1,9 @@
 // One walk on the lent tables: a start, then steps until no clause is uncovered, the flips are made, or the chosen clause has no literal of a free term.
 // While walking, the place of a covered clause is the xor of the terms of its true literals.
 // A function that another crate of the library calls may ask something of its tables, by one record, which its caller proves; none is exported.
+
+#![tactic(auto)]
+
 ghost use Rattle.std.specs.Prelude.{◌≡◌, true, cond, [], ◌+◌, ◌^◌, ◌≤◌, ◌<◌, length, ltb};
 ghost use Rattle.machine.specs.Moving.{fixed, fixed_at, fixed_before};
 ghost use Rattle.walking_steps.specs.Stepping.{stand_at, stand_before, stand_after, step_in, CanStep, held_in, start_in, CanStart, onwards_in, any_pinned, walk_in};
@@ -10,7 +13,7 @@ use draw::Generator;
 use written::{Counts, Order};
 
 // Where the walks stand beside the tables: the number of uncovered clauses, the generator, and the flips summed.
-#[derive(Drop)]
+#[derive(Clone, Copy)]
 pub struct At {
     pub number: usize,
     pub generator: Generator,

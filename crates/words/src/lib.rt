@@ -1,4 +1,7 @@
 // The value words: 32 terms to a word, low bit first. Every index is allowed: past the words a value is 0, and nothing is written.
+
+#![tactic(auto)]
+
 ghost use Rattle.std.specs.Prelude.{◌≡◌, cond, ◌-◌, ◌*◌, min, eqb};
 ghost use Rattle.words.specs.Words.{bit_at, turn_at, hold_at, keep_low, put_at, trues, filled, state_after, word_count};
 

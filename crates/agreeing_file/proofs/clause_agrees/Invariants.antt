@@ -1,0 +1,17 @@
+use mathlib.Core.Path.{◌≡◌, refl}
+use Prim.Native.Nat.{◌-◌}
+use native.Mathlib.Omega.{arith}
+use lib.ListN.{length, length-set}
+use borrow.Author.Rules.{rules}
+use Rattle.written.specs.Clauses.{term_of}
+use Rattle.agreeing_file.specs.Marks.{is_fresh, mark_term}
+use Rattle.laws.proofs.Tests.{not-both}
+use Rattle.agreeing_file.proofs.Passing.{Passing, begun, fails, again, ended}
+use Rattle.agreeing_file.proofs.Marks.{unknown, repeated, fresh}
+use Rattle.agreeing_file.proofs.clause_agrees.Given as goal
+
+abbrev pub invariant-loop-i : goal.invariant-loop-i
+invariant-loop-i l = (length l.marks ≡ length l.initial.marks) × Passing (is_fresh l.terms l.mark) (mark_term l.mark) l.clause l.initial.marks l.i l.marks
+
+abbrev pub decreases-loop-i : goal.decreases-loop-i
+decreases-loop-i l = length l.clause - l.i

@@ -1,0 +1,17 @@
+use mathlib.Core.Path.{◌≡◌, refl, sym, ◌∙◌}
+use Prim.Native.Nat.{◌-◌}
+use native.Mathlib.Omega.{arith}
+use lib.ListN.{length}
+use Rattle.written.specs.Agreement.{part_of}
+use Rattle.agreeing_file.specs.Matching.{is_next, pass_one, clause_next, pass_clause}
+use Rattle.laws.proofs.Tests.{not-both}
+use Rattle.agreeing_file.proofs.Passing.{Passing, begun, fails, again, ended}
+use Rattle.agreeing_file.proofs.Matching.{can-still}
+use borrow.Author.Rules.{rules}
+use Rattle.agreeing_file.proofs.clause_next.Given as goal
+
+abbrev pub invariant-loop-i : goal.invariant-loop-i
+invariant-loop-i l = (length l.passed ≡ length l.initial.passed) × Passing (is_next (part_of l.occurrence_starts l.occurrences) l.c) pass_one l.clause l.initial.passed l.i l.passed
+
+abbrev pub decreases-loop-i : goal.decreases-loop-i
+decreases-loop-i l = length l.clause - l.i

@@ -1,0 +1,21 @@
+use mathlib.Core.Path.{◌≡◌, refl, ap, ◌∙◌}
+use Prim.Native.Nat.{◌-◌}
+use native.Mathlib.Omega.{arith}
+use lib.ListN.{length}
+use Rattle.written.specs.Lists.{below}
+use Rattle.written.specs.Agreement.{part_of}
+use Rattle.agreeing_file.specs.Matching.{clause_next, pass_clause, clauses_next, pass_clauses}
+use Rattle.laws.proofs.Tests.{not-both}
+use Rattle.agreeing_file.proofs.Passing.{Passing, begun, range-fails, range-again, range-ended}
+use Rattle.agreeing_file.proofs.Matching.{clause-is, can-clause}
+use borrow.Author.Rules.{rules}
+use Rattle.agreeing_file.proofs.clauses_next.Given as goal
+
+abbrev pub invariant-loop-c : goal.invariant-loop-c
+invariant-loop-c l =
+    (length l.passed ≡ length l.initial.passed)
+    × Passing (λ k ms. clause_next (part_of l.occurrence_starts l.occurrences) k (part_of l.starts l.literals k) ms) (λ k ms. pass_clause (part_of l.starts l.literals k) ms)
+    (below l.clauses) l.initial.passed l.c l.passed
+
+abbrev pub decreases-loop-c : goal.decreases-loop-c
+decreases-loop-c l = l.clauses - l.c

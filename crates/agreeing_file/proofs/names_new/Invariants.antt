@@ -1,0 +1,16 @@
+use mathlib.Core.Path.{◌≡◌, refl}
+use Prim.Native.Nat.{◌-◌, ◌≤◌}
+use native.Mathlib.Omega.{arith}
+use lib.ListN.{length, take, length-set}
+use borrow.Author.Rules.{rules}
+use Rattle.written.specs.Limits.{narrow}
+use Rattle.machine.specs.Slots.{Indexed}
+use Rattle.names.specs.Finding.{homes}
+use Rattle.machine.proofs.Slots.{differ-fails, slot_in, next_known, all_known}
+use Rattle.agreeing_file.proofs.names_new.Given as goal
+
+abbrev pub invariant-loop-i : goal.invariant-loop-i
+invariant-loop-i l = (l.i ≤ length l.names) × (length l.slots ≡ length l.initial.slots) × Indexed homes narrow.terms (take l.i l.names) l.slots
+
+abbrev pub decreases-loop-i : goal.decreases-loop-i
+decreases-loop-i l = length l.names - l.i

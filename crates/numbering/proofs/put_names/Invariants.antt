@@ -1,0 +1,18 @@
+-- `numbering::put_names` meets its contract: the names put so far stand over what was there. Assumes nothing.
+use Prim.Native.Nat.{ℕ, ◌-◌, ◌≤◌}
+use mathlib.Core.Path.{◌≡◌, refl, ap, ◌∙◌}
+use mathlib.Core.List.{List}
+use native.Mathlib.Nat.{le_antisymm}
+use native.Mathlib.Omega.{arith}
+use borrow.Author.Rules.{rules}
+use lib.ListN.{length, length-set}
+use Rattle.written.specs.Tables.{over}
+use Rattle.written.specs.Numbered.{names_to}
+use Rattle.numbering.proofs.Names.{none-put, one-put}
+use Rattle.numbering.proofs.put_names.Given as goal
+
+abbrev pub invariant-loop-k : goal.invariant-loop-k
+invariant-loop-k l = (l.names ≡ over (names_to l.k) l.initial.names) × (length l.names ≡ length l.initial.names) × (l.k ≤ l.n)
+
+abbrev pub decreases-loop-k : goal.decreases-loop-k
+decreases-loop-k l = l.n - l.k

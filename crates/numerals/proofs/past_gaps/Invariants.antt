@@ -1,0 +1,18 @@
+-- `numerals::past_gaps` meets its contract: what is left of the gaps leads where all do. Assumes nothing.
+-- a line is counted for each byte at most
+use Prim.Native.Nat.{◌+◌, ◌-◌, ◌≤◌}
+use mathlib.Core.Path.{◌≡◌, refl, ◌∙◌}
+use native.Mathlib.Omega.{arith}
+use borrow.Author.Rules.{rules}
+use lib.ListN.{length}
+use Rattle.scan.specs.Scan.{cursor_at}
+use Rattle.written.specs.Numerals.{past_gaps}
+use Rattle.laws.proofs.Tests.{said_no, said-yes}
+use Rattle.numerals.proofs.Gaps.{gap-on, gap-stop, gap-end}
+use Rattle.numerals.proofs.past_gaps.Given as goal
+
+abbrev pub invariant-loop-at : goal.invariant-loop-at
+invariant-loop-at l = (past_gaps l.text (cursor_at l.at l.line) ≡ past_gaps l.text (cursor_at l.initial.at l.initial.line)) × (l.line + (length l.text - l.at) ≤ l.initial.line + (length l.text - l.initial.at))
+
+abbrev pub decreases-loop-at : goal.decreases-loop-at
+decreases-loop-at l = length l.text - l.at

@@ -1,0 +1,17 @@
+use mathlib.Core.Path.{◌≡◌, refl}
+use Prim.Native.Nat.{◌-◌, ◌≤◌}
+use native.Mathlib.Nat.{le_trans}
+use native.Mathlib.Omega.{arith}
+use lib.ListN.{length, take, length-set}
+use Rattle.written.specs.Lists.{total}
+use Rattle.machine.specs.Passes.{rewritten}
+use Rattle.machine.proofs.Rewritten.{rewritten-none}
+use Rattle.occurrences.proofs.Summing.{sum_more, sum_fits, start-more, start-last}
+use borrow.Author.Rules.{rules}
+use Rattle.occurrences.proofs.sums.Given as goal
+
+abbrev pub invariant-loop-l : goal.invariant-loop-l
+invariant-loop-l l = (l.l ≤ l.n) × (l.at ≡ total (λ x. x) (take l.l l.counts)) × (l.starts ≡ rewritten (λ k p. total (λ x. x) (take k l.counts)) l.l l.initial.starts) × (length l.starts ≡ length l.initial.starts)
+
+abbrev pub decreases-loop-l : goal.decreases-loop-l
+decreases-loop-l l = l.n - l.l

@@ -1,0 +1,14 @@
+-- `reading_end::clear_rest` meets its contract: a loop over the entries from a place on. Assumes nothing.
+use mathlib.Core.Path.{◌≡◌, refl}
+use Prim.Native.Nat.{◌-◌, ◌≤◌}
+use native.Mathlib.Omega.{arith}
+use lib.ListN.{length, length-set}
+use borrow.Author.Rules.{rules}
+use Rattle.reading_end.proofs.Cleared.{passed_by, rest-none, rest_more, rest_end}
+use Rattle.reading_end.proofs.clear_rest.Given as goal
+
+abbrev pub invariant-loop-i : goal.invariant-loop-i
+invariant-loop-i l = (l.from ≤ l.i) × (l.i ≤ l.n) × (l.table ≡ passed_by l.n l.from l.i l.initial.table) × (length l.table ≡ length l.initial.table)
+
+abbrev pub decreases-loop-i : goal.decreases-loop-i
+decreases-loop-i l = l.n - l.i

@@ -1,0 +1,18 @@
+use mathlib.Core.Path.{◌≡◌, sym, subst}
+use Prim.Native.Nat.{◌-◌, ◌≤◌}
+use native.Mathlib.Omega.{arith}
+use Rattle.machine.specs.Tallies.{tallies, SameSizes}
+use Rattle.machine.specs.Moving.{view}
+use Rattle.machine.specs.Passes.{CanCount, counted}
+use Rattle.machine.proofs.Rewritten.{up_none, up_more, up-end}
+use Rattle.machine.proofs.Sizes.{sizes-refl, sizes_trans}
+use borrow.Author.Rules.{rules}
+use Rattle.recounts.proofs.count_all.Given as goal
+
+abbrev pub invariant-loop-c : goal.invariant-loop-c
+invariant-loop-c l =
+    (l.c ≤ l.clauses) × (tallies l.trues l.breaks l.list l.places l.number ≡ counted l.c (view l.values l.starts l.literals) (tallies l.initial.trues l.initial.breaks l.initial.list l.initial.places 0))
+    × SameSizes (tallies l.trues l.breaks l.list l.places l.number) (tallies l.initial.trues l.initial.breaks l.initial.list l.initial.places 0)
+
+abbrev pub decreases-loop-c : goal.decreases-loop-c
+decreases-loop-c l = l.clauses - l.c

@@ -1,0 +1,16 @@
+-- `running_report::put_answer` meets its contract: the terms that are left make the answer. Assumes nothing.
+use mathlib.Core.Path.{◌≡◌, refl, ◌∙◌}
+use mathlib.Core.List.{◌∷◌, []}
+use Prim.Native.Nat.{◌-◌}
+use lib.ListN.{length}
+use borrow.Author.Rules.{rules}
+use Rattle.pages.specs.Pages.{page, put}
+use Rattle.pages.proofs.Pieces.{Left, begun, first_fits, onward, split, over, ended}
+use Rattle.running_report.proofs.Named.{terms_from, terms-over, terms-more, answer-none, answer-more}
+use Rattle.running_report.proofs.put_answer.Given as goal
+
+abbrev pub invariant-loop-t : goal.invariant-loop-t
+invariant-loop-t l = Left (terms_from l.terms l.names l.values l.t ∷ []) (put (terms_from l.terms l.names l.values 1) (page l.initial.next l.initial.out)) (page l.next l.out) × (length l.out ≡ length l.initial.out)
+
+abbrev pub decreases-loop-t : goal.decreases-loop-t
+decreases-loop-t l = l.terms - l.t

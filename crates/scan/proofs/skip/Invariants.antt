@@ -1,0 +1,16 @@
+-- `scan::skip` meets its contract: the run from i ends where the run from `at` does. Assumes nothing.
+use Prim.Native.Nat.{◌-◌}
+use native.Mathlib.Omega.{arith}
+use borrow.Author.Rules.{rules}
+use borrow.Author.Tests.{not-true, not-false}
+use mathlib.Core.Path.{◌≡◌, refl, sym, ◌∙◌}
+use lib.ListN.{length}
+use Rattle.scan.specs.Scan.{is_of, past}
+use Rattle.scan.proofs.Laws.{past_more, past_stop, past_end}
+use Rattle.scan.proofs.skip.Given as goal
+
+abbrev pub invariant-loop-i : goal.invariant-loop-i
+invariant-loop-i l = past (is_of l.k) l.text l.i ≡ past (is_of l.k) l.text l.at
+
+abbrev pub decreases-loop-i : goal.decreases-loop-i
+decreases-loop-i l = length l.text - l.i

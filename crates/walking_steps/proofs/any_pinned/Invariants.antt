@@ -1,0 +1,11 @@
+-- `walking_steps::any_pinned` meets its contract: the marks passed are those looked at. Assumes nothing.
+use Prim.Native.Nat.{◌-◌}
+use borrow.Author.Rules.{rules}
+use Rattle.walking_steps.proofs.Plain.{Seeing, see_begun, see_more, see_done}
+use Rattle.walking_steps.proofs.any_pinned.Given as goal
+
+abbrev pub invariant-loop-t : goal.invariant-loop-t
+invariant-loop-t l = Seeing l.marks l.n l.t l.any
+
+abbrev pub decreases-loop-t : goal.decreases-loop-t
+decreases-loop-t l = l.n - l.t
