@@ -1,0 +1,15 @@
+-- `scan::in_numbers` meets its contract: each number is its function's. Assumes nothing.
+use borrow.Author.Rules.{rules}
+use Rattle.scan.specs.Scan.{told_of}
+use Rattle.scan.proofs.in_numbers.Goals as goal
+
+pub returns : goal.returns
+unfolding told_of
+returns c =
+    rw (
+      c.kind_of.ensures,
+      c.reason_of.ensures,
+      c.line_of.ensures,
+      c.name_in.ensures,
+      c.sign_in.ensures,
+    )

@@ -1,0 +1,24 @@
+-- `scan::skip` meets its contract: the run from i ends where the run from `at` does. Assumes nothing.
+use Prim.Native.Nat.{◌-◌}
+use native.Mathlib.Omega.{arith}
+use borrow.Author.Rules.{rules}
+use mathlib.Core.Path.{◌≡◌, refl, sym, ◌∙◌}
+use lib.ListN.{length}
+use Rattle.scan.specs.Scan.{is_of, past}
+use Rattle.scan.proofs.Laws.{past_more, past_stop, past_end}
+use Rattle.scan.proofs.skip.Goals as goal
+
+pub returns-then-not-is : goal.returns-then-not-is
+returns-then-not-is c =
+    let k = c.args.k in
+    sym (past_stop (is_of k) _ _ c.loop-i-test.true (sym c.is.ensures ∙ c.if-not-is.true))
+    ∙ c.loop-i.invariant
+
+pub loop-i-preserved : goal.loop-i-preserved
+loop-i-preserved c =
+    let k = c.args.k in
+    past_more (is_of k) _ _ c.loop-i-test.true (sym c.is.ensures ∙ c.if-not-is.false)
+    ∙ c.loop-i.invariant
+
+pub returns : goal.returns
+returns c = sym (past_end _ _ _ c.loop-i-test.false) ∙ c.loop-i.invariant
