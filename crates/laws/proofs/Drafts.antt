@@ -2,7 +2,7 @@
 use Prim.Native.Nat.{ℕ, ◌+◌, ◌*◌, ◌≤◌, ◌<◌}
 use mathlib.Core.Path.{◌≡◌, refl, ap, sym, ◌∙◌}
 use mathlib.Core.Bool.{true}
-use mathlib.Core.List.{List, [], ◌∷◌, map, map_append}
+use mathlib.Core.List.{List, [], ◌∷◌, map, map-append}
 use native.Mathlib.Omega.{arith}
 use borrow.Author.Tests.{lt-ltb}
 use lib.ListN.{length, length-append}
@@ -99,7 +99,7 @@ module _ (lim : Limits) (d : Draft) (fits : Fits lim d) where
         names-differ = known-differ l.name ns fits.names-differ;
         clauses-valid = all_implied (is_clause (length ns)) (is_clause n) (clause-more (length ns) n longer) d.clauses fits.clauses-valid;
         line-below = all_snoc (λ k. ltb k (2 * n)) d.line new (below_more (length ns) n longer d.line fits.line-below) (lt-ltb new (2 * n) (literal-below here n l.negated (known-place l.name ns)));
-        line_differs = ap differ (map_append term_of d.line (new ∷ [])) ∙ rw (term-of-literal here l.negated) (differ_snoc (map term_of d.line) here fits.line_differs (new_term here l.negated d.line room.once room.one_way));
+        line_differs = ap differ (map-append term_of d.line (new ∷ [])) ∙ rw (term-of-literal here l.negated) (differ_snoc (map term_of d.line) here fits.line_differs (new_term here l.negated d.line room.once room.one_way));
       }
 
   -- the text's end

@@ -1,0 +1,14 @@
+-- `digits::all_digits` meets its contract: every byte before i is a digit. Assumes nothing.
+use Prim.Native.Nat.{◌-◌}
+use lib.ListN.{length}
+use borrow.Author.Rules.{rules}
+use Rattle.written.specs.Sheet.{is_digit}
+use Rattle.laws.proofs.Tests.{said_no, said-yes, Tested, none-tested, one-tested, one-fails, all_tested}
+use Rattle.digits.proofs.all_digits.Goals as goal
+
+pub loop-i-preserved : goal.loop-i-preserved
+loop-i-preserved c =
+    one-tested is_digit _ _ c.loop-i.invariant c.loop-i-test.true (said-yes c.if-not-is_digit.false c.is_digit.ensures)
+
+pub returns : goal.returns
+returns c = all_tested is_digit _ _ c.loop-i.invariant c.loop-i-test.false

@@ -1,0 +1,27 @@
+-- `names::find` meets its contract: the slots passed hold other names. Assumes nothing.
+use native.Mathlib.Omega.{arith}
+use Prim.Native.Nat.{◌+◌, ◌-◌}
+use lib.ListN.{take}
+use borrow.Author.Rules.{rules}
+use Rattle.written.specs.Limits.{narrow}
+use Rattle.names.specs.Finding.{homes}
+use Rattle.machine.proofs.Slots.{Searched, search_begun, in_slots, in_names, before-end, search_missed, search_hit, search_again}
+use Rattle.names.proofs.find.Goals as goal
+
+pub loop-terms-init : goal.loop-terms-init
+loop-terms-init c = let p = c.requires in rw c.home-s.ensures (search_begun homes narrow.terms _ _ _ p.0 p.1 _)
+
+pub returns-then-k-eq0 : goal.returns-then-k-eq0
+returns-then-k-eq0 c =
+    let p = c.requires in
+    search_missed homes narrow.terms _ _ _ p.0 p.1 _ _ c.loop-terms.invariant c.if-k-eq0.true
+
+pub returns-then-names-t : goal.returns-then-names-t
+returns-then-names-t c =
+    let p = c.requires in
+    search_hit homes narrow.terms _ _ _ p.0 p.1 _ _ c.loop-terms.invariant c.if-k-eq0.false c.if-names-t.true
+
+pub loop-terms-preserved : goal.loop-terms-preserved
+loop-terms-preserved c =
+    let p = c.requires in
+    search_again homes narrow.terms _ _ _ p.0 p.1 _ _ c.loop-terms.invariant c.if-k-eq0.false c.if-names-t.false

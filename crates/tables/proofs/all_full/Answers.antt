@@ -1,0 +1,13 @@
+-- `tables::all_full` meets its contract: each way out has the tests that lead there. Assumes nothing.
+use mathlib.Core.Path.{refl}
+use borrow.Author.Rules.{rules}
+use Rattle.written.specs.Marks.{marks_full, full_marked}
+use Rattle.tables.proofs.all_full.Goals as goal
+
+pub returns-then-are_full : goal.returns-then-are_full
+unfolding full_marked marks_full
+returns-then-are_full c = rw (← c.are_full.ensures, c.if-are_full.true) refl
+
+pub returns : goal.returns
+unfolding full_marked
+returns c = rw (← c.are_full.ensures, c.if-are_full.false) refl
