@@ -3,18 +3,30 @@
 
 #![tactic(auto)]
 
+use std::io::{Error, Write};
+use std::process::ExitCode;
 use written::Form;
 
-fn main() {
+// Says on standard error why there is no result.
+fn fail(rt: &(impl AllocGlobal + Eprint), what: &str, why: &Error) -> ExitCode {
+    let _ = match standard_input::words(rt.alloc(), why) {
+        Ok(words) => eprintln!(rt; "cnf: {what}: {words}"),
+        Err(_) => eprintln!(rt; "cnf: {what}: {why}"),
+    };
+    ExitCode::FAILURE
+}
+
+fn main(rt: HostRuntime) -> ExitCode {
     let mut input = [0u8; 65537];
     let mut out = [0u8; 20544];
-    let seen = standard_input::read_input(&mut input);
+    let seen = standard_input::read_input(&mut rt.stdin(), &mut input);
     let n = running_alone::run_read(Form::Numbered, &input, seen.read, seen.last, &mut out);
     if n == 0 {
-        os::fail(b"cnf: no result, since standard input could not be read to its end");
-        return;
+        let what = "no result, since standard input could not be read to its end";
+        return fail(&rt, what, &standard_input::failure(seen.last));
     }
-    if !io::write_all(1, &out[..n]) {
-        os::fail(b"cnf: the result could not be written");
+    match rt.stdout().write_all(&out[..n]) {
+        Ok(()) => ExitCode::SUCCESS,
+        Err(why) => fail(&rt, "the result could not be written", &why),
     }
 }
