@@ -2,18 +2,9 @@
 
 #![tactic(auto)]
 
-use std::io::{Error, Write};
+use std::io::Write;
 use std::process::ExitCode;
 use written::Form;
-
-// Says on standard error why there is no result.
-fn fail(rt: &(impl AllocGlobal + Eprint), what: &str, why: &Error) -> ExitCode {
-    let _ = match standard_input::words(rt.alloc(), why) {
-        Ok(words) => eprintln!(rt; "run: {what}: {words}"),
-        Err(_) => eprintln!(rt; "run: {what}: {why}"),
-    };
-    ExitCode::FAILURE
-}
 
 fn main(rt: HostRuntime) -> ExitCode {
     let mut input = [0u8; 65537];
@@ -21,11 +12,13 @@ fn main(rt: HostRuntime) -> ExitCode {
     let seen = standard_input::read_input(&mut rt.stdin(), &mut input);
     let n = running_alone::run_read(Form::Own, &input, seen.read, seen.last, &mut out);
     if n == 0 {
-        let what = "no result, since standard input could not be read to its end";
-        return fail(&rt, what, &standard_input::failure(seen.last));
+        let what = "run: no result, since standard input could not be read to its end";
+        standard_input::tell(&rt, what, &standard_input::failure(seen.last));
+        return ExitCode::FAILURE;
     }
-    match rt.stdout().write_all(&out[..n]) {
-        Ok(()) => ExitCode::SUCCESS,
-        Err(why) => fail(&rt, "the result could not be written", &why),
+    if let Err(why) = rt.stdout().write_all(&out[..n]) {
+        standard_input::tell(&rt, "run: the result could not be written", &why);
+        return ExitCode::FAILURE;
     }
+    ExitCode::SUCCESS
 }

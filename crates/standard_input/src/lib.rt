@@ -5,8 +5,7 @@
 ghost use Rattle.std.specs.Prelude.{◌≤◌, length};
 ghost use Rattle.std.specs.Io.{ReadsAtMost};
 
-use std::alloc::{AllocError, Global};
-use std::io::{Error, ErrorKind, Read, Result};
+use std::io::{Cursor, Error, ErrorKind, Read, Result, Write};
 
 // How many bytes were read, and what the last call of `read` answered: 0 at the input's end, and below 0 at a failure, where it is the system's number of
 // the error with a minus before it.
@@ -56,13 +55,18 @@ pub fn failure(last: isize) -> Error {
     Error::from_raw_os_error(i32::try_from(last.wrapping_neg()).unwrap_or(EIO))
 }
 
-// Why a call failed, in the system's words alone.
-pub fn words(alloc: Global, why: &Error) -> std::result::Result<String, AllocError> {
-    let text = format!(in alloc; "{why}")?;
-    match text.as_str().split_once(" (os error ") {
-        Some((said, _)) => String::from_str(alloc, said),
-        None => Ok(text),
-    }
+// Says on standard error that something failed, and why in the system's words alone.
+pub fn tell(rt: &impl Eprint, what: &str, why: &Error) {
+    let mut said = Cursor::new([0u8; 256]);
+    let _ = write!(said, "{why}");
+    let text = said.into_inner();
+    let _ = match str::from_utf8(&text)
+        .ok()
+        .and_then(|it| it.split_once(" (os error "))
+    {
+        Some((words, _)) => eprintln!(rt; "{what}: {words}"),
+        None => eprintln!(rt; "{what}: {why}"),
+    };
 }
 
 // The reader's bytes up to their end, to a failure, or until the buffer is full.
