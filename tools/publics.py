@@ -13,7 +13,7 @@ sys.dont_write_bytecode = True  # nothing is written into the tree
 from statements import ROOT, functions, rows  # noqa: E402
 
 MOST_LINES = 40
-LEFT_OPEN = {"reading_lines::draft", "numbering::draft", "reading_draft::draft", "standard_input::read_input"}  # docs/STATEMENTS.md, "Exceptions"
+LEFT_OPEN = {"reading_lines::draft", "numbering::draft", "reading_draft::draft", "standard_input::read_input", "standard_input::failure", "standard_input::tell"}  # docs/STATEMENTS.md, "Exceptions"
 HEAD = r'^(?P<indent> *)(?P<public>pub )?(?P<export>extern "C" )?fn (?P<name>\w+)'
 FUNCTION = re.compile(HEAD + r"(?P<contract>.*?)\{\n(?P<body>.*?)^(?P=indent)\}$", re.M | re.S)
 
