@@ -27,12 +27,12 @@ use Rattle.reading_literal.proofs.Takes.{can-place, placed_took}
 use Rattle.reading_lines.specs.declared.Place.{Place}
 use Rattle.reading_lines.specs.declared.Next.{Next}
 use Rattle.reading_lines.specs.declared.Next.TheVariants as N
-use Rattle.reading_lines.specs.Drafting.{Desk, desk, Drafted, Turned}
+use Rattle.reading_lines.specs.Drafting.{Desk, desk, DraftedWith, TurnedWith}
 use Rattle.reading_lines.specs.Turns.{after_literal, LineEnd, line_end, after_line, after_text}
 use Rattle.reading_lines.proofs.Held.{known_are, line-length}
 use Rattle.reading_lines.proofs.Literals.{literal-turns}
 use Rattle.reading_lines.proofs.Tokens.{line-turns, text-turns}
-use Rattle.numbering.specs.declared.Going.{Going}
+use Rattle.numbering.specs.declared.Going.{GoingWith}
 use Rattle.numbering.specs.declared.Pass as D
 use Rattle.numbering.specs.declared.Pass.TheVariants as P
 use Rattle.numbering.specs.Passes.{going, pass_of, ZeroEnd, zero_end, kept_by, after_zero, after_numbers}
@@ -40,7 +40,7 @@ use Rattle.numbering.specs.Counting.{Count, count, desk_with, Summed, CanCount, 
 
 -- ---- a clause's end in the code, by each way through its tests
 
-module _ (lim : Limits) (h : Header) (g : Going) (n : ℕ) (ss : List ℕ) where
+module _ (lim : Limits) (h : Header) (g : GoingWith) (n : ℕ) (ss : List ℕ) where
   pub past-count : h.clauses ≤ g.ended → {r : D.Pass} → r ≡ P.Refused (fault_at n ClauseCount) → zero_end r ss ≡ after_zero lim h g n ss
   unfolding after_zero
   past-count full told = ap (λ (r : D.Pass). zero_end r ss) told ∙ sym (rw (le-leb h.clauses g.ended full) refl)
@@ -71,15 +71,15 @@ module _ (lim : Limits) (h : Header) (few : h.variables ≤ lim.terms) (small : 
       subst (Then (Sums lim h) (λ r. Unit {0})) e
       (number_by (Sums lim h) (λ r. Unit {0}) lim h s x (number-sums lim h few small (λ r. Unit {0}) (λ e. tt) s k x))
 
-  module _ (w₀ w : Desk) (g : Going) (s : Sum) (k : Summed lim h w₀ w g s) (x : Signed) (w' : Desk) where
+  module _ (w₀ w : Desk) (g : GoingWith) (s : Sum) (k : Summed lim h w₀ w g s) (x : Signed) (w' : Desk) where
     -- the code goes on
-    onward : (g' : Going) (s' : Sum) → at_number lim h s x ≡ on s' → Drafted by_number lim w₀ w' g'.place s'.draft → g'.dropped ≡ s'.is_dropped → g'.ended ≡ s'.ended
+    onward : (g' : GoingWith) (s' : Sum) → at_number lim h s x ≡ on s' → DraftedWith by_number lim w₀ w' g'.place s'.draft → g'.dropped ≡ s'.is_dropped → g'.ended ≡ s'.ended
         → Passed lim h w₀ w' (at_number lim h s x) (P.On g')
     onward g' s' e drafted dropped ended =
         record { sum = s'; is = e; summed = record { drafted = drafted; dropped-is = dropped; ended_is = ended; sums = next-sums s k.sums x s' e } }
 
     -- a turn of the open clause
-    turn-passes : (n : ℕ) (u : Turn) → at_number lim h s x ≡ turned n u → (next : Next) → Turned by_number lim w₀ w' u next
+    turn-passes : (n : ℕ) (u : Turn) → at_number lim h s x ≡ turned n u → (next : Next) → TurnedWith by_number lim w₀ w' u next
         → Passed lim h w₀ w' (at_number lim h s x) (pass_of next n)
     turn-passes n u e (N.Goes p) l = onward (going p false n) (sum l.draft false n) (e ∙ ap (turned n) l.is) l.drafted refl refl
     turn-passes n u e (N.Drops p) l = onward (going p true n) (sum l.draft true n) (e ∙ ap (turned n) l.is) l.drafted refl refl
@@ -88,7 +88,7 @@ module _ (lim : Limits) (h : Header) (few : h.variables ≤ lim.terms) (small : 
 
   -- ---- a number
 
-  module _ (x : Signed) (t : Count) (g : Going) where
+  module _ (x : Signed) (t : Count) (g : GoingWith) where
     pub above_counts : h.variables < x.number → {r : D.Pass} → r ≡ P.Refused (fault_at x.line PastHeader) → CountsBy lim h (Number x) t g t r
     unfolding at_numeral
     above_counts high told = record { told = λ w₀ ns os s k. rw told (number_above lim h s x high, k.drafted.beyond) }
@@ -173,13 +173,13 @@ module _ (lim : Limits) (h : Header) (few : h.variables ≤ lim.terms) (small : 
   -- ---- what is no number, and the text's end
 
   -- a turn that ends the reading
-  ends-pass : (w₀ w : Desk) (end : Reading) (u : Pass) → u ≡ to end → (r : Next) → Turned by_number lim w₀ w (ends end) r → Passed lim h w₀ w u (pass_of r 0)
+  ends-pass : (w₀ w : Desk) (end : Reading) (u : Pass) → u ≡ to end → (r : Next) → TurnedWith by_number lim w₀ w (ends end) r → Passed lim h w₀ w u (pass_of r 0)
   ends-pass w₀ w end u q (N.Goes p) l = absurd (true≢false (ap is_end l.is))
   ends-pass w₀ w end u q (N.Drops p) l = absurd (true≢false (ap is_end l.is))
   ends-pass w₀ w end u q (N.Whole p) l = record { draft = l.draft; is = q ∙ ap (turned 0) l.is; drafted = l.drafted }
   ends-pass w₀ w end u q (N.Refused f) l = (q ∙ ap (turned 0) l.0, l.1)
 
-  module _ (t : Count) (g : Going) where
+  module _ (t : Count) (g : GoingWith) where
     pub bad-counts : (n : ℕ) {r : D.Pass} → r ≡ P.Refused (fault_at n ByteNotAllowed) → CountsBy lim h (Bad n) t g t r
     unfolding at_numeral
     bad-counts n told = record { told = λ w₀ ns os s k. rw told (refl, k.drafted.beyond) }

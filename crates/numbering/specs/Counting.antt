@@ -14,8 +14,8 @@ use Rattle.laws.proofs.NumberedReadings.{Sums}
 use Rattle.reading_literal.specs.Taking.{by_number}
 use Rattle.reading_lines.specs.declared.Ended.{Ended}
 use Rattle.reading_lines.specs.declared.Ended.TheVariants as E
-use Rattle.reading_lines.specs.Drafting.{Desk, desk, Beyond, Drafted, Leads, whole}
-use Rattle.numbering.specs.declared.Going.{Going}
+use Rattle.reading_lines.specs.Drafting.{Desk, desk, BeyondWith, DraftedWith, LeadsWith, whole}
+use Rattle.numbering.specs.declared.Going.{GoingWith}
 use Rattle.numbering.specs.declared.Pass as D
 use Rattle.numbering.specs.declared.Pass.TheVariants as P
 use Rattle.numbering.specs.Passes.{outset}
@@ -42,14 +42,14 @@ abbrev pub desk_with : List ℕ → List ℕ → Count → Desk
 desk_with ns os k = desk ns k.starts k.literals k.stamps os
 
 -- the tables w hold the reading s on its way, and g says how far it has come; they were w₀ at first
-pub record Summed (lim : Limits) (h : Header) (w₀ w : Desk) (g : Going) (s : Sum) : Type 0 where
-  pub drafted : Drafted by_number lim w₀ w g.place s.draft
+pub record Summed (lim : Limits) (h : Header) (w₀ w : Desk) (g : GoingWith) (s : Sum) : Type 0 where
+  pub drafted : DraftedWith by_number lim w₀ w g.place s.draft
   pub dropped-is : g.dropped ≡ s.is_dropped
   pub ended_is : g.ended ≡ s.ended
   pub sums : Sums lim h s
 
 -- the tables hold some reading on its way
-pub record CanCount (lim : Limits) (h : Header) (k : Count) (g : Going) : Type 0 where
+pub record CanCount (lim : Limits) (h : Header) (k : Count) (g : GoingWith) : Type 0 where
   pub first : Desk
   pub names : List ℕ
   pub slots : List ℕ
@@ -58,7 +58,7 @@ pub record CanCount (lim : Limits) (h : Header) (k : Count) (g : Going) : Type 0
   pub small : h.variables ≤ lim.terms
 
 -- the written pass u goes on with what the tables hold
-pub record Onward (u : Pass) (lim : Limits) (h : Header) (w₀ w : Desk) (g : Going) : Type 0 where
+pub record Onward (u : Pass) (lim : Limits) (h : Header) (w₀ w : Desk) (g : GoingWith) : Type 0 where
   pub sum : Sum
   pub is : u ≡ on sum
   pub summed : Summed lim h w₀ w g sum
@@ -66,17 +66,17 @@ pub record Onward (u : Pass) (lim : Limits) (h : Header) (w₀ w : Desk) (g : Go
 -- where the code goes is the written pass u
 abbrev pub Passed : Limits → Header → Desk → Desk → Pass → D.Pass → Type 0
 Passed lim h w₀ w u (P.On g) = Onward u lim h w₀ w g
-Passed lim h w₀ w u (P.Whole p) = Leads u (λ d. to (whole d)) by_number lim w₀ w p
-Passed lim h w₀ w u (P.Refused f) = (u ≡ to (refused f)) × Beyond by_number lim w₀ w
+Passed lim h w₀ w u (P.Whole p) = LeadsWith u (λ d. to (whole d)) by_number lim w₀ w p
+Passed lim h w₀ w u (P.Refused f) = (u ≡ to (refused f)) × BeyondWith by_number lim w₀ w
 
 -- whatever the tables held, what was met has done to it what is written
-pub record CountsBy (lim : Limits) (h : Header) (k : Numeral) (t : Count) (g : Going) (t' : Count) (r : D.Pass) : Type 0 where
+pub record CountsBy (lim : Limits) (h : Header) (k : Numeral) (t : Count) (g : GoingWith) (t' : Count) (r : D.Pass) : Type 0 where
   pub told : (w₀ : Desk) (ns os : List ℕ) (s : Sum) → Summed lim h w₀ (desk_with ns os t) g s → Passed lim h w₀ (desk_with ns os t') (at_numeral lim h s k) r
 
 -- the code ends with the reading u
 abbrev pub EndsBy : Limits → Reading → Desk → Desk → Ended → Type 0
-EndsBy lim u w₀ w (E.Whole p) = Leads u whole by_number lim w₀ w p
-EndsBy lim u w₀ w (E.Refused f) = (u ≡ refused f) × Beyond by_number lim w₀ w
+EndsBy lim u w₀ w (E.Whole p) = LeadsWith u whole by_number lim w₀ w p
+EndsBy lim u w₀ w (E.Refused f) = (u ≡ refused f) × BeyondWith by_number lim w₀ w
 
 -- what the numbers of a text ask, after the header on a line: tables that hold the names of its variables
 pub record CanBegin (lim : Limits) (t : List ℕ) (h : Header) (line : ℕ) (k : Count) : Type 0 where

@@ -7,7 +7,6 @@ ghost use Rattle.scan.specs.Scan.{line_of};
 ghost use Rattle.written.specs.Limits.{narrow};
 ghost use Rattle.written.specs.Reasons.{fault_at};
 ghost use Rattle.names.specs.Finding.{homes};
-ghost use Rattle.reading_literal.specs.Taking.{by_slots};
 ghost use Rattle.reading_lines.specs.declared.Next.TheVariants.{Refused};
 ghost use Rattle.reading_lines.specs.Drafting.{desk_at, desk_before, desk_after, Going, TurnsBy, Blank, Drawn};
 ghost use Rattle.reading_lines.specs.Turns.{given_back, after_literal, line_end, after_line, after_text};
@@ -132,8 +131,8 @@ fn at_token(
     p: Place,
     k: Token,
 ) -> Next
-    requires { Going (by_slots homes narrow) narrow (desk_at names starts literals stamps slots) p × (line_of k < 2 ^ 32) }
-    ensures { TurnsBy (by_slots homes narrow) narrow k (desk_before names starts literals stamps slots) p
+    requires { Going homes narrow (desk_at names starts literals stamps slots) p × (line_of k < 2 ^ 32) }
+    ensures { TurnsBy homes narrow k (desk_before names starts literals stamps slots) p
         (desk_after names starts literals stamps slots) result }
 {
     match k {
