@@ -24,7 +24,7 @@ use Rattle.laws.proofs.Fuel.{left}
 use Rattle.laws.proofs.NumeralSteps.{is_end, line_in, number-stands, number-falls, number-line, number-gap}
 use Rattle.reading_lines.specs.declared.Ended.TheVariants as E
 use Rattle.reading_lines.specs.Drafting.{Desk}
-use Rattle.numbering.specs.declared.Going.{GoingWith}
+use Rattle.numbering.specs.declared.Going.{Going}
 use Rattle.numbering.specs.declared.Pass as D
 use Rattle.numbering.specs.declared.Pass.TheVariants as P
 use Rattle.numbering.specs.Passes.{outset}
@@ -56,7 +56,7 @@ no_end lim h s s' (Bad n) e = refl
 no_end lim h s s' End e = absurd (false≢true (ap is_on e))
 
 -- the tables hold a reading on its way, which from here on, with turns enough, comes to what the whole does
-pub record Coming (lim : Limits) (t : List ℕ) (h : Header) (line : ℕ) (w₀ w : Desk) (c : Cursor) (g : GoingWith) : Type 0 where
+pub record Coming (lim : Limits) (t : List ℕ) (h : Header) (line : ℕ) (w₀ w : Desk) (c : Cursor) (g : Going) : Type 0 where
   pub sum : Sum
   pub summed : Summed lim h w₀ w g sum
   pub turns : ℕ
@@ -64,7 +64,7 @@ pub record Coming (lim : Limits) (t : List ℕ) (h : Header) (line : ℕ) (w₀ 
   pub rest : numbers_from turns lim t h c sum ≡ read_numbers lim t h line
 
 -- so it is of whatever names and slots stood beside the tables, and of whatever they were at first
-pub record Underway (lim : Limits) (t : List ℕ) (h : Header) (line : ℕ) (k₀ k : Count) (c : Cursor) (g : GoingWith) : Type 0 where
+pub record Underway (lim : Limits) (t : List ℕ) (h : Header) (line : ℕ) (k₀ k : Count) (c : Cursor) (g : Going) : Type 0 where
   pub told : (w₀ : Desk) (ns os : List ℕ) → Summed lim h w₀ (desk_with ns os k₀) (outset h) (begun h) → Coming lim t h line w₀ (desk_with ns os k) c g
   pub stands : Stands t c
   pub inside : c.at < length t
@@ -82,7 +82,7 @@ module _ (lim : Limits) (t : List ℕ) (h : Header) (line : ℕ) (k₀ : Count) 
         long = record { starts-long = refl; literals-long = refl; stamps-long = refl };
       }
 
-  module _ (k : Count) (c : Cursor) (g : GoingWith) (u : Underway lim t h line k₀ k c g) where
+  module _ (k : Count) (c : Cursor) (g : Going) (u : Underway lim t h line k₀ k c g) where
     first-summed : Summed lim h can.can.first (desk_with can.can.names can.can.slots k₀) (outset h) (begun h)
     first-summed =
         subst (Summed lim h can.can.first (desk_with can.can.names can.can.slots k₀) (outset h)) can.begun-is can.can.summed
@@ -146,7 +146,7 @@ module _ (lim : Limits) (t : List ℕ) (h : Header) (line : ℕ) (k₀ : Count) 
             → read_numbers lim t h line ≡ passed v (λ s'. numbers_from turn.0 lim t h (number_at t c).next s')
         read-on e = sym turn.2 ∙ ap (λ (v : Pass). passed v (λ s'. numbers_from turn.0 lim t h (number_at t c).next s')) e
 
-        coming-on : (q : GoingWith) → CountsBy lim h (number_at t c).numeral k g k' (P.On q) → Coming lim t h line w₀ (desk_with ns os k') (number_at t c).next q
+        coming-on : (q : Going) → CountsBy lim h (number_at t c).numeral k g k' (P.On q) → Coming lim t h line w₀ (desk_with ns os k') (number_at t c).next q
         coming-on q by =
             let led = by.told w₀ ns os way.sum way.summed in
             record {

@@ -32,7 +32,7 @@ use Rattle.reading_lines.specs.Turns.{after_literal, LineEnd, line_end, after_li
 use Rattle.reading_lines.proofs.Held.{known_are, line-length}
 use Rattle.reading_lines.proofs.Literals.{literal-turns}
 use Rattle.reading_lines.proofs.Tokens.{line-turns, text-turns}
-use Rattle.numbering.specs.declared.Going.{GoingWith}
+use Rattle.numbering.specs.declared.Going.{Going}
 use Rattle.numbering.specs.declared.Pass as D
 use Rattle.numbering.specs.declared.Pass.TheVariants as P
 use Rattle.numbering.specs.Passes.{going, pass_of, ZeroEnd, zero_end, kept_by, after_zero, after_numbers}
@@ -40,7 +40,7 @@ use Rattle.numbering.specs.Counting.{Count, count, desk_with, Summed, CanCount, 
 
 -- ---- a clause's end in the code, by each way through its tests
 
-module _ (lim : Limits) (h : Header) (g : GoingWith) (n : ℕ) (ss : List ℕ) where
+module _ (lim : Limits) (h : Header) (g : Going) (n : ℕ) (ss : List ℕ) where
   pub past-count : h.clauses ≤ g.ended → {r : D.Pass} → r ≡ P.Refused (fault_at n ClauseCount) → zero_end r ss ≡ after_zero lim h g n ss
   unfolding after_zero
   past-count full told = ap (λ (r : D.Pass). zero_end r ss) told ∙ sym (rw (le-leb h.clauses g.ended full) refl)
@@ -71,9 +71,9 @@ module _ (lim : Limits) (h : Header) (few : h.variables ≤ lim.terms) (small : 
       subst (Then (Sums lim h) (λ r. Unit {0})) e
       (number_by (Sums lim h) (λ r. Unit {0}) lim h s x (number-sums lim h few small (λ r. Unit {0}) (λ e. tt) s k x))
 
-  module _ (w₀ w : Desk) (g : GoingWith) (s : Sum) (k : Summed lim h w₀ w g s) (x : Signed) (w' : Desk) where
+  module _ (w₀ w : Desk) (g : Going) (s : Sum) (k : Summed lim h w₀ w g s) (x : Signed) (w' : Desk) where
     -- the code goes on
-    onward : (g' : GoingWith) (s' : Sum) → at_number lim h s x ≡ on s' → DraftedWith by_number lim w₀ w' g'.place s'.draft → g'.dropped ≡ s'.is_dropped → g'.ended ≡ s'.ended
+    onward : (g' : Going) (s' : Sum) → at_number lim h s x ≡ on s' → DraftedWith by_number lim w₀ w' g'.place s'.draft → g'.dropped ≡ s'.is_dropped → g'.ended ≡ s'.ended
         → Passed lim h w₀ w' (at_number lim h s x) (P.On g')
     onward g' s' e drafted dropped ended =
         record { sum = s'; is = e; summed = record { drafted = drafted; dropped-is = dropped; ended_is = ended; sums = next-sums s k.sums x s' e } }
@@ -88,7 +88,7 @@ module _ (lim : Limits) (h : Header) (few : h.variables ≤ lim.terms) (small : 
 
   -- ---- a number
 
-  module _ (x : Signed) (t : Count) (g : GoingWith) where
+  module _ (x : Signed) (t : Count) (g : Going) where
     pub above_counts : h.variables < x.number → {r : D.Pass} → r ≡ P.Refused (fault_at x.line PastHeader) → CountsBy lim h (Number x) t g t r
     unfolding at_numeral
     above_counts high told = record { told = λ w₀ ns os s k. rw told (number_above lim h s x high, k.drafted.beyond) }
@@ -179,7 +179,7 @@ module _ (lim : Limits) (h : Header) (few : h.variables ≤ lim.terms) (small : 
   ends-pass w₀ w end u q (N.Whole p) l = record { draft = l.draft; is = q ∙ ap (turned 0) l.is; drafted = l.drafted }
   ends-pass w₀ w end u q (N.Refused f) l = (q ∙ ap (turned 0) l.0, l.1)
 
-  module _ (t : Count) (g : GoingWith) where
+  module _ (t : Count) (g : Going) where
     pub bad-counts : (n : ℕ) {r : D.Pass} → r ≡ P.Refused (fault_at n ByteNotAllowed) → CountsBy lim h (Bad n) t g t r
     unfolding at_numeral
     bad-counts n told = record { told = λ w₀ ns os s k. rw told (refl, k.drafted.beyond) }

@@ -5,7 +5,7 @@ use Rattle.scan.specs.Scan.{open_end, cursor_at}
 use Rattle.written.specs.declared.Header.{Header}
 use Rattle.written.specs.declared.Numeral.{Numeral}
 use Rattle.written.specs.Limits.{Limits}
-use Rattle.written.specs.Lending.{Held, Slice}
+use Rattle.written.specs.Lending.{Held}
 use Rattle.written.specs.Reading.{Reading, refused}
 use Rattle.written.specs.Numerals.{is_gap}
 use Rattle.written.specs.Numbered.{Sum, Pass, on, to, begun, at_numeral, numbers_from, numbers_in}
@@ -15,7 +15,7 @@ use Rattle.reading_literal.specs.Taking.{by_number}
 use Rattle.reading_lines.specs.declared.Ended.{Ended}
 use Rattle.reading_lines.specs.declared.Ended.TheVariants as E
 use Rattle.reading_lines.specs.Drafting.{Desk, desk, BeyondWith, DraftedWith, LeadsWith, whole}
-use Rattle.numbering.specs.declared.Going.{GoingWith}
+use Rattle.numbering.specs.declared.Going.{Going}
 use Rattle.numbering.specs.declared.Pass as D
 use Rattle.numbering.specs.declared.Pass.TheVariants as P
 use Rattle.numbering.specs.Passes.{outset}
@@ -29,27 +29,27 @@ abbrev pub count : List ℕ → List ℕ → List ℕ → Count
 count s l m = record { starts = s; literals = l; stamps = m }
 
 abbrev pub count_at : Held → Held → Held → Count
-count_at s l m = count s.now l.now m.now
+count_at s l m = count s l m
 
-abbrev pub count_before : Slice → Slice → Slice → Count
-count_before s l m = count_at s.entry l.entry m.entry
+abbrev pub count_before : Held → Held → Held → Count
+count_before s l m = count_at s l m
 
-abbrev pub count_after : Slice → Slice → Slice → Count
-count_after s l m = count_at s.exit l.exit m.exit
+abbrev pub count_after : Held → Held → Held → Count
+count_after s l m = count_at s l m
 
 -- these among the tables of a draft, beside the names and the slots
 abbrev pub desk_with : List ℕ → List ℕ → Count → Desk
 desk_with ns os k = desk ns k.starts k.literals k.stamps os
 
 -- the tables w hold the reading s on its way, and g says how far it has come; they were w₀ at first
-pub record Summed (lim : Limits) (h : Header) (w₀ w : Desk) (g : GoingWith) (s : Sum) : Type 0 where
+pub record Summed (lim : Limits) (h : Header) (w₀ w : Desk) (g : Going) (s : Sum) : Type 0 where
   pub drafted : DraftedWith by_number lim w₀ w g.place s.draft
   pub dropped-is : g.dropped ≡ s.is_dropped
   pub ended_is : g.ended ≡ s.ended
   pub sums : Sums lim h s
 
 -- the tables hold some reading on its way
-pub record CanCount (lim : Limits) (h : Header) (k : Count) (g : GoingWith) : Type 0 where
+pub record CanCount (lim : Limits) (h : Header) (k : Count) (g : Going) : Type 0 where
   pub first : Desk
   pub names : List ℕ
   pub slots : List ℕ
@@ -58,7 +58,7 @@ pub record CanCount (lim : Limits) (h : Header) (k : Count) (g : GoingWith) : Ty
   pub small : h.variables ≤ lim.terms
 
 -- the written pass u goes on with what the tables hold
-pub record Onward (u : Pass) (lim : Limits) (h : Header) (w₀ w : Desk) (g : GoingWith) : Type 0 where
+pub record Onward (u : Pass) (lim : Limits) (h : Header) (w₀ w : Desk) (g : Going) : Type 0 where
   pub sum : Sum
   pub is : u ≡ on sum
   pub summed : Summed lim h w₀ w g sum
@@ -70,7 +70,7 @@ Passed lim h w₀ w u (P.Whole p) = LeadsWith u (λ d. to (whole d)) by_number l
 Passed lim h w₀ w u (P.Refused f) = (u ≡ to (refused f)) × BeyondWith by_number lim w₀ w
 
 -- whatever the tables held, what was met has done to it what is written
-pub record CountsBy (lim : Limits) (h : Header) (k : Numeral) (t : Count) (g : GoingWith) (t' : Count) (r : D.Pass) : Type 0 where
+pub record CountsBy (lim : Limits) (h : Header) (k : Numeral) (t : Count) (g : Going) (t' : Count) (r : D.Pass) : Type 0 where
   pub told : (w₀ : Desk) (ns os : List ℕ) (s : Sum) → Summed lim h w₀ (desk_with ns os t) g s → Passed lim h w₀ (desk_with ns os t') (at_numeral lim h s k) r
 
 -- the code ends with the reading u

@@ -8,15 +8,15 @@ use Rattle.reading_lines.specs.declared.Place.{Place}
 use Rattle.reading_lines.specs.declared.Next.{Next}
 use Rattle.reading_lines.specs.declared.Next.TheVariants as N
 use Rattle.reading_lines.specs.Turns.{place_at, LineEnd, after_line, after_text}
-use Rattle.numbering.specs.declared.Going.{GoingWith}
+use Rattle.numbering.specs.declared.Going.{Going}
 use Rattle.numbering.specs.declared.Pass.{Pass}
 use Rattle.numbering.specs.declared.Pass.TheVariants as P
 
-abbrev pub going : Place → Bool → ℕ → GoingWith
+abbrev pub going : Place → Bool → ℕ → Going
 going p b n = record { place = p; dropped = b; ended = n }
 
 -- where the numbers begin: every variable is known
-abbrev pub outset : Header → GoingWith
+abbrev pub outset : Header → Going
 outset h = going (place_at h.variables 0 0 0) false 0
 
 -- after a turn of the open clause, when n have ended
@@ -37,14 +37,14 @@ zero_end r ss = record { pass = r; starts = ss }
 abbrev pub kept_by : LineEnd → ℕ → ZeroEnd
 kept_by e n = zero_end (pass_of e.next n) e.starts
 
-unfoldable pub after_zero : Limits → Header → GoingWith → ℕ → List ℕ → ZeroEnd
+unfoldable pub after_zero : Limits → Header → Going → ℕ → List ℕ → ZeroEnd
 after_zero lim h g n ss =
     cond (leb h.clauses g.ended) (zero_end (P.Refused (fault_at n ClauseCount)) ss)
     (cond g.dropped (zero_end (P.On (going g.place false (suc g.ended))) ss)
     (kept_by (after_line lim g.place n ss) (suc g.ended)))
 
 -- the text's end
-unfoldable pub after_numbers : Header → GoingWith → Pass
+unfoldable pub after_numbers : Header → Going → Pass
 after_numbers h g =
     cond g.dropped (P.Refused (fault ClauseCount))
     (cond (not (eqb g.place.held g.place.from)) (P.Refused (fault ClauseCount))

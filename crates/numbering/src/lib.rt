@@ -20,7 +20,7 @@ use written::{Fault, Headed, Header, Numeral, Reason, Signed};
 
 // How far a draft has come, whether its open clause is dropped, and how many clauses have ended, those dropped too.
 #[derive(Clone, Copy)]
-pub struct GoingWith {
+pub struct Going {
     pub ended: u64,
     pub place: Place,
     pub dropped: bool,
@@ -29,7 +29,7 @@ pub struct GoingWith {
 // Where a number leads: on, to the text's end with a clause kept, or to a fault.
 #[derive(Clone, Copy)]
 pub enum Pass {
-    On(GoingWith),
+    On(Going),
     Whole(Place),
     Refused(Fault),
 }
@@ -69,12 +69,12 @@ fn turned(next: Next, ended: u64) -> Pass
     ensures { result ≡ pass_of next ended }
 {
     match next {
-        Next::Goes(place) => Pass::On(GoingWith {
+        Next::Goes(place) => Pass::On(Going {
             place,
             dropped: false,
             ended,
         }),
-        Next::Drops(place) => Pass::On(GoingWith {
+        Next::Drops(place) => Pass::On(Going {
             place,
             dropped: true,
             ended,
@@ -85,7 +85,7 @@ fn turned(next: Next, ended: u64) -> Pass
 }
 
 // A clause's end: past the header's count, of a dropped clause, of 0 alone, or one that is kept if there is room.
-fn at_zero(starts: &mut [u16], h: Header, g: GoingWith, line: usize) -> Pass
+fn at_zero(starts: &mut [u16], h: Header, g: Going, line: usize) -> Pass
     requires { (line < 2 ^ 32) × (g.place.held < 2 ^ 16) × (narrow.clauses < length starts.old) }
     ensures { zero_end result starts.new ≡ after_zero narrow h g line starts.old }
 {
@@ -96,7 +96,7 @@ fn at_zero(starts: &mut [u16], h: Header, g: GoingWith, line: usize) -> Pass
     }
     let next = ended + 1;
     if g.dropped {
-        return Pass::On(GoingWith {
+        return Pass::On(Going {
             place,
             dropped: false,
             ended: next,
@@ -111,11 +111,11 @@ fn at_number(
     literals: &mut [u16],
     stamps: &mut [u16],
     h: Header,
-    g: GoingWith,
+    g: Going,
     x: Signed,
 ) -> Pass
-    requires { CanCount narrow h (count_at starts literals stamps) g × (x.line < 2 ^ 32) }
-    ensures { CountsBy narrow h (Number x) (count_before starts literals stamps) g (count_after starts literals stamps) result }
+    requires { CanCount narrow h (count_at starts.old literals.old stamps.old) g × (x.line < 2 ^ 32) }
+    ensures { CountsBy narrow h (Number x) (count_before starts.old literals.old stamps.old) g (count_after starts.new literals.new stamps.new) result }
 {
     let line = x.line;
     let number = x.number;
@@ -135,7 +135,7 @@ fn at_number(
 }
 
 // The text's end: a clause is open, clauses are too few, none is kept, or the file is whole.
-fn at_numbers_end(h: Header, g: GoingWith) -> Pass
+fn at_numbers_end(h: Header, g: Going) -> Pass
     ensures { result ≡ after_numbers h g }
 {
     let p = g.place;
@@ -157,11 +157,11 @@ fn at_numeral(
     literals: &mut [u16],
     stamps: &mut [u16],
     h: Header,
-    g: GoingWith,
+    g: Going,
     k: Numeral,
 ) -> Pass
-    requires { CanCount narrow h (count_at starts literals stamps) g × (line_in k < 2 ^ 32) }
-    ensures { CountsBy narrow h k (count_before starts literals stamps) g (count_after starts literals stamps) result }
+    requires { CanCount narrow h (count_at starts.old literals.old stamps.old) g × (line_in k < 2 ^ 32) }
+    ensures { CountsBy narrow h k (count_before starts.old literals.old stamps.old) g (count_after starts.new literals.new stamps.new) result }
 {
     match k {
         Numeral::Number(x) => at_number(starts, literals, stamps, h, g, x),
@@ -179,11 +179,11 @@ fn numbers(
     h: Header,
     line: usize,
 ) -> Ended
-    requires { CanBegin narrow text.now h line (count_at starts literals stamps) }
-    ensures { Counted narrow text.now h line (count_before starts literals stamps) (count_after starts literals stamps) result }
+    requires { CanBegin narrow text.now h line (count_at starts.old literals.old stamps.old) }
+    ensures { Counted narrow text.now h line (count_before starts.old literals.old stamps.old) (count_after starts.new literals.new stamps.new) result }
 {
     let mut c = Cursor { at: h.end, line };
-    let mut g = GoingWith {
+    let mut g = Going {
         place: Place {
             terms: h.variables as usize,
             clauses: 0,
@@ -233,9 +233,9 @@ pub fn draft(
     literals: &mut [u16],
     stamps: &mut [u16],
 ) -> Ended
-    requires { CanDraw narrow text.now names.old (count_at starts literals stamps) }
-    ensures { Drawn narrow text.now names.old (count_before starts literals stamps)
-        names.new (count_after starts literals stamps) result }
+    requires { CanDraw narrow text.now names.old (count_at starts.old literals.old stamps.old) }
+    ensures { Drawn narrow text.now names.old (count_before starts.old literals.old stamps.old)
+        names.new (count_after starts.new literals.new stamps.new) result }
 {
     let c = numerals::past_comments(text);
     let at = c.at;

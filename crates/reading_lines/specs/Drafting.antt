@@ -5,7 +5,7 @@ use Rattle.scan.specs.declared.Token.{Token}
 use Rattle.written.specs.Lists.{total}
 use Rattle.written.specs.Limits.{Limits}
 use Rattle.written.specs.Tables.{starts_from, over}
-use Rattle.written.specs.Lending.{Held, Slice}
+use Rattle.written.specs.Lending.{Held}
 use Rattle.written.specs.Reading.{Reading, Draft, Turn, accepted, refused, goes, drops, ends, at_token, from_left}
 use Rattle.reading_literal.specs.Line.{line_in}
 use Rattle.reading_literal.specs.Taking.{Index, by_slots, OpenWith}
@@ -27,13 +27,13 @@ abbrev pub desk : List ℕ → List ℕ → List ℕ → List ℕ → List ℕ �
 desk n s l m o = record { names = n; starts = s; literals = l; stamps = m; slots = o }
 
 abbrev pub desk_at : Held → Held → Held → Held → Held → Desk
-desk_at n s l m o = desk n.now s.now l.now m.now o.now
+desk_at n s l m o = desk n s l m o
 
-abbrev pub desk_before : Slice → Slice → Slice → Slice → Slice → Desk
-desk_before n s l m o = desk_at n.entry s.entry l.entry m.entry o.entry
+abbrev pub desk_before : Held → Held → Held → Held → Held → Desk
+desk_before n s l m o = desk_at n s l m o
 
-abbrev pub desk_after : Slice → Slice → Slice → Slice → Slice → Desk
-desk_after n s l m o = desk_at n.exit s.exit l.exit m.exit o.exit
+abbrev pub desk_after : Held → Held → Held → Held → Held → Desk
+desk_after n s l m o = desk_at n s l m o
 
 -- past the full sizes, and past the slots that names are looked up by, nothing has changed
 pub record BeyondWith (X : Index) (lim : Limits) (w₀ w : Desk) : Type 0 where

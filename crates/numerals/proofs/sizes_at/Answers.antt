@@ -27,7 +27,7 @@ pub slice_bounds-is_number-start : goal.slice_bounds-is_number-start
 slice_bounds-is_number-start c = ?
 
 pub slice_bounds-is_number-end : goal.slice_bounds-is_number-end
-slice_bounds-is_number-end c = ?
+slice_bounds-is_number-end c = word-within _ _ c.skip-variables_end.ensures (omega (arith, c.if-text-v.false))
 
 pub returns-then-not-is_number : goal.returns-then-not-is_number
 returns-then-not-is_number c = first-none _ _ c.skip-variables_end.ensures (sym c.is_number.ensures ∙ c.if-not-is_number.true)
@@ -43,7 +43,7 @@ pub slice_bounds-is_number-start-2 : goal.slice_bounds-is_number-start-2
 slice_bounds-is_number-start-2 c = ?
 
 pub slice_bounds-is_number-end-2 : goal.slice_bounds-is_number-end-2
-slice_bounds-is_number-end-2 c = ?
+slice_bounds-is_number-end-2 c = second-within _ _ c.skip-variables_end.ensures c.skip-c.ensures c.skip-end.ensures (omega (arith, c.if-text-v.false))
 
 pub returns-then-not-is_number-2 : goal.returns-then-not-is_number-2
 returns-then-not-is_number-2 c =
@@ -64,13 +64,13 @@ pub slice_bounds-value-count : goal.slice_bounds-value-count
 slice_bounds-value-count c = word-from _ _ c.skip-variables_end.ensures
 
 pub slice_bounds-value-start : goal.slice_bounds-value-start
-slice_bounds-value-start c = ?
+slice_bounds-value-start c = word-from _ _ c.skip-variables_end.ensures
 
 pub slice_bounds-value-count-2 : goal.slice_bounds-value-count-2
 slice_bounds-value-count-2 c = word-from _ _ c.skip-end.ensures
 
 pub slice_bounds-value-start-2 : goal.slice_bounds-value-start-2
-slice_bounds-value-start-2 c = ?
+slice_bounds-value-start-2 c = word-from _ _ c.skip-end.ensures
 
 pub returns : goal.returns
 returns c =
