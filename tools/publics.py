@@ -67,7 +67,7 @@ def main():
     wrong += [f"{name}: {fault}" for name, fault in exports.items() if fault]
     for section, row in rows():
         names = [name for name in functions(section, row) if name not in LEFT_OPEN]
-        if len(re.findall(r"`settled/\w+\.[\w-]+-settled`", row.get("settled by", ""))) != len(names):
+        if len(re.findall(r"`settled/\w+\.[\w-]+[-_]settled`", row.get("settled by", ""))) != len(names):
             wrong.append(f"{', '.join(names)}: not one theorem of settled for each")
     lines = [(name, function["body"].count("\n")) for name, function in here]
     wrong += [f"{name}: {many} lines" for name, many in lines if many > MOST_LINES]
