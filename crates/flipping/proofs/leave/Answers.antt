@@ -1,9 +1,6 @@
 -- `flipping::leave` meets its contract: the code is the definition, written out. Assumes nothing.
 use mathlib.Core.Path.{refl}
-use native.Mathlib.Omega.{arith}
-use lib.ListN.{length-set}
 use Rattle.machine.specs.Uncovered.{leaves}
-use borrow.Author.Rules.{rules}
 use Rattle.flipping.proofs.leave.Goals as goal
 
 pub returns : goal.returns

@@ -2,7 +2,6 @@
 use mathlib.Core.Path.{ap}
 use Prim.Native.Nat.{ℕ, ◌+◌, ◌*◌}
 use Rattle.machine.specs.Moving.{up_of}
-use borrow.Author.Rules.{rules}
 use Rattle.flipping.proofs.up_literal.Goals as goal
 
 pub returns : goal.returns
