@@ -29,7 +29,7 @@ pub slice_bounds-begins-count-2 : goal.slice_bounds-begins-count-2
 slice_bounds-begins-count-2 c = within _ _ c.skip-k.ensures c.if-text-at.false
 
 pub slice_bounds-begins-start-2 : goal.slice_bounds-begins-start-2
-slice_bounds-begins-start-2 c = ?
+slice_bounds-begins-start-2 c = within _ _ c.skip-k.ensures c.if-text-at.false
 
 pub returns-then-not-begins-2 : goal.returns-then-not-begins-2
 returns-then-not-begins-2 c =

@@ -24,7 +24,7 @@ pub slice_bounds-is_number-count : goal.slice_bounds-is_number-count
 slice_bounds-is_number-count c = word-from _ _ c.skip-variables_end.ensures
 
 pub slice_bounds-is_number-start : goal.slice_bounds-is_number-start
-slice_bounds-is_number-start c = ?
+slice_bounds-is_number-start c = word-from _ _ c.skip-variables_end.ensures
 
 pub slice_bounds-is_number-end : goal.slice_bounds-is_number-end
 slice_bounds-is_number-end c = word-within _ _ c.skip-variables_end.ensures (omega (arith, c.if-text-v.false))
@@ -40,7 +40,7 @@ pub slice_bounds-is_number-count-2 : goal.slice_bounds-is_number-count-2
 slice_bounds-is_number-count-2 c = word-from _ _ c.skip-end.ensures
 
 pub slice_bounds-is_number-start-2 : goal.slice_bounds-is_number-start-2
-slice_bounds-is_number-start-2 c = ?
+slice_bounds-is_number-start-2 c = word-from _ _ c.skip-end.ensures
 
 pub slice_bounds-is_number-end-2 : goal.slice_bounds-is_number-end-2
 slice_bounds-is_number-end-2 c = second-within _ _ c.skip-variables_end.ensures c.skip-c.ensures c.skip-end.ensures (omega (arith, c.if-text-v.false))
