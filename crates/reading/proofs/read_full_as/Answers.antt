@@ -8,7 +8,7 @@ use Rattle.written.specs.Numbered.{read_as}
 use Rattle.written.specs.Tables.{Tables, lent}
 use Rattle.laws.proofs.NumberedReadings.{form-sound}
 use Rattle.reading.proofs.Decided.{is-bare, was_read}
-use Rattle.reading.proofs.read_full.Lts as lts
+use Rattle.reading.proofs.read_full_as.Lts as lts
 use Rattle.reading.proofs.read_full_as.Goals as goal
 
 abbrev tables : {calls : _} {asks : _} {tells : _} {κs : _} → lts.Args calls asks tells κs → Tables
