@@ -9,8 +9,7 @@ use answers::read::ReadAnswer;
 use written::Form;
 
 // Clause text read into the tables, or refused: reason 1 changes nothing, any other leaves the full sizes 0. No term is marked then.
-#[unsafe(no_mangle)]
-pub extern "C" fn ngi_read(
+pub fn ngi_read(
     text: &[u8],
     names: &mut [u64],
     values: &mut [u32],

@@ -8,8 +8,7 @@ ghost use Rattle.running_text.specs.Running.{answered};
 use written::{Form, RunAnswer};
 
 // What the program prints for the input stands first in `out`. Result 1 tells so, with its length; 0 that a table or `out` is too short (reason 1).
-#[unsafe(no_mangle)]
-pub extern "C" fn ngi_run(
+pub fn ngi_run(
     input: &[u8],
     names: &mut [u64],
     values: &mut [u32],
