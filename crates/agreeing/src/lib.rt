@@ -48,9 +48,11 @@ fn points_agree(
     uncovered: &[u16],
     places: &[u16],
 ) -> bool
-    requires { (are_full narrow (lent_at names values starts literals occurrence_starts occurrences trues breaks uncovered places) ≡ true)
+    requires { (are_full narrow (lent_at names.now values.now starts.now literals.now occurrence_starts.now occurrences.now trues.now breaks.now
+        uncovered.now places.now) ≡ true)
         × (counts_fit narrow n ≡ true) }
-    ensures { result ≡ agree narrow n (lent_before names values starts literals occurrence_starts occurrences trues breaks uncovered places) }
+    ensures { result ≡ agree narrow n (lent_before names.now values.now starts.now literals.now occurrence_starts.now occurrences.now trues.now
+        breaks.now uncovered.now places.now) }
 {
     if agreeing_file::clauses_hold(n, names, starts, literals, occurrence_starts, occurrences) {
         if agreeing_counts::counts_agree(
@@ -97,8 +99,10 @@ pub fn agrees(
     uncovered: &[u16],
     places: &[u16],
 ) -> bool
-    ensures { result ≡ (are_full narrow (lent_before names values starts literals occurrence_starts occurrences trues breaks uncovered places)
-        && agree narrow n (lent_before names values starts literals occurrence_starts occurrences trues breaks uncovered places)) }
+    ensures { result ≡ (are_full narrow (lent_before names.now values.now starts.now literals.now occurrence_starts.now occurrences.now trues.now
+        breaks.now uncovered.now places.now)
+        && agree narrow n (lent_before names.now values.now starts.now literals.now occurrence_starts.now occurrences.now trues.now breaks.now
+        uncovered.now places.now)) }
 {
     if tables::are_full(
         names,

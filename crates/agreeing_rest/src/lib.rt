@@ -159,7 +159,8 @@ pub fn rests_agree(
     uncovered: &[u16],
     places: &[u16],
 ) -> bool
-    requires { (are_full narrow (lent_at names values starts literals occurrence_starts occurrences trues breaks uncovered places) ≡ true)
+    requires { (are_full narrow (lent_at names.now values.now starts.now literals.now occurrence_starts.now occurrences.now trues.now breaks.now
+        uncovered.now places.now) ≡ true)
         × (counts_fit narrow n ≡ true) }
     ensures { result ≡ (clause_rests narrow n names.now values.now starts.now literals.now
         occurrence_starts.now occurrences.now

@@ -79,9 +79,9 @@ fn gain_one(
     v: usize,
     c: u16,
 ) -> usize
-    requires { CanGain 65536 v c (tallies_at trues breaks list places number) × (v < 65536) }
-    ensures { tallies_after trues breaks list places result
-        ≡ gain_one v c (tallies_before trues breaks list places number) }
+    requires { CanGain 65536 v c (tallies_at trues.old breaks.old list.old places.old number) × (v < 65536) }
+    ensures { tallies_after trues.new breaks.new list.new places.new result
+        ≡ gain_one v c (tallies_before trues.old breaks.old list.old places.old number) }
 {
     let at = c as usize;
     let k = trues[at];
@@ -107,9 +107,9 @@ fn lose_one(
     v: usize,
     c: u16,
 ) -> usize
-    requires { CanLose 65536 v c (tallies_at trues breaks list places number) × (v < 65536) }
-    ensures { tallies_after trues breaks list places result
-        ≡ lose_one v c (tallies_before trues breaks list places number) }
+    requires { CanLose 65536 v c (tallies_at trues.old breaks.old list.old places.old number) × (v < 65536) }
+    ensures { tallies_after trues.new breaks.new list.new places.new result
+        ≡ lose_one v c (tallies_before trues.old breaks.old list.old places.old number) }
 {
     let at = c as usize;
     let k = trues[at];
@@ -135,9 +135,9 @@ fn gain_run(
     number: usize,
     v: usize,
 ) -> usize
-    requires { CanSteps (CanGain 65536 v) (gain_one v) run.now (tallies_at trues breaks list places number) × (v < 65536) }
-    ensures { tallies_after trues breaks list places result
-        ≡ steps (gain_one v) run.now (tallies_before trues breaks list places number) }
+    requires { CanSteps (CanGain 65536 v) (gain_one v) run.now (tallies_at trues.old breaks.old list.old places.old number) × (v < 65536) }
+    ensures { tallies_after trues.new breaks.new list.new places.new result
+        ≡ steps (gain_one v) run.now (tallies_before trues.old breaks.old list.old places.old number) }
 {
     let mut n = number;
     let mut i = 0;
@@ -158,9 +158,9 @@ fn lose_run(
     number: usize,
     v: usize,
 ) -> usize
-    requires { CanSteps (CanLose 65536 v) (lose_one v) run.now (tallies_at trues breaks list places number) × (v < 65536) }
-    ensures { tallies_after trues breaks list places result
-        ≡ steps (lose_one v) run.now (tallies_before trues breaks list places number) }
+    requires { CanSteps (CanLose 65536 v) (lose_one v) run.now (tallies_at trues.old breaks.old list.old places.old number) × (v < 65536) }
+    ensures { tallies_after trues.new breaks.new list.new places.new result
+        ≡ steps (lose_one v) run.now (tallies_before trues.old breaks.old list.old places.old number) }
 {
     let mut n = number;
     let mut i = 0;
@@ -192,10 +192,10 @@ pub fn flip_term(
     v: usize,
 ) -> usize
     requires { CanFlip 65536 (occurring occurrence_starts.now occurrences.now) v
-        (moving_at values trues breaks list places number) }
-    ensures { moving_after values trues breaks list places result
+        (moving_at values.old trues.old breaks.old list.old places.old number) }
+    ensures { moving_after values.new trues.new breaks.new list.new places.new result
         ≡ flip_term (occurring occurrence_starts.now occurrences.now) v
-        (moving_before values trues breaks list places number) }
+        (moving_before values.old trues.old breaks.old list.old places.old number) }
 {
     let up = up_literal(values, v);
     words::turn(values, v);
@@ -220,10 +220,10 @@ pub fn flip_all(
 ) -> usize
     requires { CanSteps (CanFlip 65536 (occurring occurrence_starts.now occurrences.now))
         (flip_term (occurring occurrence_starts.now occurrences.now)) terms.now
-        (moving_at values trues breaks list places number) }
-    ensures { moving_after values trues breaks list places result
+        (moving_at values.old trues.old breaks.old list.old places.old number) }
+    ensures { moving_after values.new trues.new breaks.new list.new places.new result
         ≡ steps (flip_term (occurring occurrence_starts.now occurrences.now)) terms.now
-        (moving_before values trues breaks list places number) }
+        (moving_before values.old trues.old breaks.old list.old places.old number) }
 {
     let mut n = number;
     let mut k = 0;

@@ -85,7 +85,8 @@ fn verdict(
     marks: &[u8],
 ) -> Tested
     ensures { result ≡ tests_of narrow list.now n
-        (lent_before names values starts literals occurrence_starts occurrences trues breaks uncovered places) marks.now }
+        (lent_before names.now values.now starts.now literals.now occurrence_starts.now occurrences.now trues.now breaks.now uncovered.now
+        places.now) marks.now }
 {
     if !tables::all_full(
         names,
@@ -140,11 +141,11 @@ fn flip_list(
     places: &mut [u16],
     number: usize,
 ) -> usize
-    requires { CanApply 65536 clauses (fixed_at starts literals occurrence_starts occurrences) list.now
-        (moving_at values trues breaks uncovered places number) }
-    ensures { moving_after values trues breaks uncovered places result
-        ≡ applied clauses (fixed_before starts literals occurrence_starts occurrences) list.now
-        (moving_before values trues breaks uncovered places number) }
+    requires { CanApply 65536 clauses (fixed_at starts.now literals.now occurrence_starts.now occurrences.now) list.now
+        (moving_at values.old trues.old breaks.old uncovered.old places.old number) }
+    ensures { moving_after values.new trues.new breaks.new uncovered.new places.new result
+        ≡ applied clauses (fixed_before starts.now literals.now occurrence_starts.now occurrences.now) list.now
+        (moving_before values.old trues.old breaks.old uncovered.old places.old number) }
 {
     recounts::open_all(clauses, values, starts, literals, trues, places);
     let m = flipping::flip_all(
@@ -189,10 +190,14 @@ pub fn flip_agreeing(
     uncovered: &mut [u16],
     places: &mut [u16],
 ) -> Counts
-    requires { CanFlipList narrow list.now n (lent_at names values starts literals occurrence_starts occurrences trues breaks uncovered places) }
-    ensures { ten (Applied result) (lent_after names values starts literals occurrence_starts occurrences trues breaks uncovered places)
-        ≡ ten_of (flips_leave narrow (lent_before names values starts literals occurrence_starts occurrences trues breaks uncovered places) []
-        (flipped list.now (state_in n (lent_before names values starts literals occurrence_starts occurrences trues breaks uncovered places)))) }
+    requires { CanFlipList narrow list.now n (lent_at names.now values.old starts.now literals.now occurrence_starts.now occurrences.now trues.old
+        breaks.old uncovered.old places.old) }
+    ensures { ten (Applied result) (lent_after names.now values.new starts.now literals.now occurrence_starts.now occurrences.now trues.new
+        breaks.new uncovered.new places.new)
+        ≡ ten_of (flips_leave narrow (lent_before names.now values.old starts.now literals.now occurrence_starts.now occurrences.now trues.old
+        breaks.old uncovered.old places.old) []
+        (flipped list.now (state_in n (lent_before names.now values.old starts.now literals.now occurrence_starts.now occurrences.now trues.old
+        breaks.old uncovered.old places.old)))) }
 {
     let number = flip_list(
         n.clauses as usize,
@@ -227,8 +232,10 @@ pub fn apply(
     places: &mut [u16],
     marks: &[u8],
 ) -> Flipped
-    ensures { leaves result (lent_after names values starts literals occurrence_starts occurrences trues breaks uncovered places) marks.now
-        ≡ flips_of narrow list.now n (lent_before names values starts literals occurrence_starts occurrences trues breaks uncovered places)
+    ensures { leaves result (lent_after names.now values.new starts.now literals.now occurrence_starts.now occurrences.now trues.new breaks.new
+        uncovered.new places.new) marks.now
+        ≡ flips_of narrow list.now n (lent_before names.now values.old starts.now literals.now occurrence_starts.now occurrences.now trues.old
+        breaks.old uncovered.old places.old)
         marks.now }
 {
     match verdict(

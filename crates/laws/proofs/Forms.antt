@@ -23,7 +23,7 @@ use Rattle.written.specs.Walk.{walk_over}
 use Rattle.written.specs.Sheet.{sheet_of}
 use Rattle.written.specs.Tables.{Tables}
 use Rattle.written.specs.Marks.{full_marked}
-use Rattle.written.specs.Program.{Course, unbegun, unread, walked, after_reading, after_sheet, course_as, report_size, run_refused, ran_as, run_as}
+use Rattle.written.specs.Program.{Course, unbegun, unread, walked, after_reading, after_sheet_as, course_as, report_size, run_refused, ran_as, run_as}
 use Rattle.laws.specs.RunCalls.{Begun, text_after}
 use Rattle.laws.proofs.Basics.{by_cases, by-lt}
 use Rattle.laws.proofs.Faults.{refusal-line-bound}
@@ -55,11 +55,11 @@ module _ (form : Form) (lim : Limits) (input : List ℕ) where
   long_as l = rw (lt-ltb lim.text (length input) l) refl
 
   pub sheet_as : (e : Fault) → length input ≤ lim.text → sheet_of input ≡ O.Refused e → course_as form lim input ≡ unbegun (O.Refused e)
-  unfolding course_as after_sheet
+  unfolding course_as after_sheet_as
   sheet_as e h q = rw (le-ltb lim.text (length input) h, q) refl
 
   begun_as : (s : Sheet) → Begun lim input s → course_as form lim input ≡ after_reading s.order (read_as form lim (text_after s input))
-  unfolding course_as after_sheet
+  unfolding course_as after_sheet_as
   begun_as s b = rw (le-ltb lim.text (length input) b.short, b.sheet) refl
 
   pub text_as : (s : Sheet) (e : Fault) → Begun lim input s → read_as form lim (text_after s input) ≡ refused e → course_as form lim input ≡ unread e

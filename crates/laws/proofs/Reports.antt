@@ -24,7 +24,7 @@ use Rattle.written.specs.Walk.{Outcome, walk_over}
 use Rattle.written.specs.Sheet.{sheet_of}
 use Rattle.written.specs.Orders.{flips_each, walks_all}
 use Rattle.written.specs.Printed.{decimal, line, answer, chosen, refused_by, refusal, report}
-use Rattle.written.specs.Program.{after_reading, after_sheet, course_as, said_as, said, printed_as, printed, report_size}
+use Rattle.written.specs.Program.{after_reading, after_sheet_as, course_as, said_as, said, printed_as, printed, report_size}
 use Rattle.laws.specs.Sheets.{last_line}
 use Rattle.laws.proofs.Basics.{by_cases}
 use Rattle.laws.proofs.Reasons.{reason-below}
@@ -110,8 +110,8 @@ module _ (lim : Limits) (few : lim.terms < 10 ^ 9) (short : lim.text + 1 < 10 ^ 
   reading-fits o t r h (accepted f) q = walked-length lim o [] f r (reading-proper lim t f q).few-terms few
   reading-fits o t r h (refused e) q = refusal-fits lim e short (let n = refusal-line-bound lim t e q in omega arith)
 
-  sheet-fits : (input : List ℕ) → length input ≤ lim.text → (s : Ordered) → Judged (length input) s → length (said (after_sheet Own lim input s)) ≤ report_size lim
-  unfolding after_sheet said_as read_text
+  sheet-fits : (input : List ℕ) → length input ≤ lim.text → (s : Ordered) → Judged (length input) s → length (said (after_sheet_as Own lim input s)) ≤ report_size lim
+  unfolding after_sheet_as said_as read_text
   sheet-fits input h (Accepted s) j = reading-fits s.order (drop s.at input) (ranged s.order j.0) (omega (arith, length-drop s.at input)) _ refl
   sheet-fits input h (Refused e) j = refusal-fits lim e short (omega (arith, j.1))
 

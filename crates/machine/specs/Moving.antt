@@ -2,7 +2,7 @@
 use Rattle.std.specs.Prelude.{ℕ, ◌+◌, ◌-◌, ◌*◌, ◌/◌, ◌≤◌, ◌<◌, List, [], length, get_or}
 use Rattle.words.specs.Words.{bit_at, turn_at}
 use Rattle.written.specs.Lists.{total, steps}
-use Rattle.written.specs.Lending.{Held, Slice}
+use Rattle.written.specs.Lending.{Held}
 use Rattle.written.specs.Agreement.{part_of}
 use Rattle.machine.specs.Literals.{value_in, xor_true, Readable}
 use Rattle.machine.specs.Tallies.{Tallies, tallies_at, gain_one, lose_one, CanGain, CanLose, CanSteps}
@@ -18,13 +18,13 @@ abbrev pub fixed : List ℕ → List ℕ → List ℕ → List ℕ → Fixed
 fixed s l o c = record { starts = s; literals = l; occurrence_starts = o; occurrences = c }
 
 abbrev pub fixed_at : Held → Held → Held → Held → Fixed
-fixed_at s l o c = fixed s.now l.now o.now c.now
+fixed_at s l o c = fixed s l o c
 
-abbrev pub fixed_before : Slice → Slice → Slice → Slice → Fixed
-fixed_before s l o c = fixed_at s.entry l.entry o.entry c.entry
+abbrev pub fixed_before : Held → Held → Held → Held → Fixed
+fixed_before s l o c = fixed_at s l o c
 
-abbrev pub fixed_after : Slice → Slice → Slice → Slice → Fixed
-fixed_after s l o c = fixed_at s.exit l.exit o.exit c.exit
+abbrev pub fixed_after : Held → Held → Held → Held → Fixed
+fixed_after s l o c = fixed_at s l o c
 
 -- what a flip reads: no clause
 abbrev pub occurring : List ℕ → List ℕ → Fixed
@@ -39,13 +39,13 @@ abbrev pub moving : List ℕ → Tallies → Moving
 moving ws t = record { words = ws; tallies = t }
 
 abbrev pub moving_at : Held → Held → Held → Held → Held → ℕ → Moving
-moving_at ws ts bs us ps n = moving ws.now (tallies_at ts bs us ps n)
+moving_at ws ts bs us ps n = moving ws (tallies_at ts bs us ps n)
 
-abbrev pub moving_before : Slice → Slice → Slice → Slice → Slice → ℕ → Moving
-moving_before ws ts bs us ps n = moving_at ws.entry ts.entry bs.entry us.entry ps.entry n
+abbrev pub moving_before : Held → Held → Held → Held → Held → ℕ → Moving
+moving_before ws ts bs us ps n = moving_at ws ts bs us ps n
 
-abbrev pub moving_after : Slice → Slice → Slice → Slice → Slice → ℕ → Moving
-moving_after ws ts bs us ps n = moving_at ws.exit ts.exit bs.exit us.exit ps.exit n
+abbrev pub moving_after : Held → Held → Held → Held → Held → ℕ → Moving
+moving_after ws ts bs us ps n = moving_at ws ts bs us ps n
 
 -- what is read of a clause: the value words, clause starts, literals
 pub record View : Type 0 where

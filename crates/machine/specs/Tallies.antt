@@ -2,7 +2,7 @@
 -- covered clause is the xor of the terms of its true literals. Assumes nothing.
 use Rattle.std.specs.Prelude.{ℕ, ◌+◌, ◌-◌, ◌<◌, ◌≡◌, cond, List, [], ◌∷◌, length, get_or, set, eqb, ltb}
 use Rattle.std.specs.Int.Bits.{bit_xor}
-use Rattle.written.specs.Lending.{Held, Slice}
+use Rattle.written.specs.Lending.{Held}
 use Rattle.machine.specs.Uncovered.{Uncovered, leaves, marks, enters, CanLeave, CanEnter}
 
 -- true counts, break counts and the uncovered list
@@ -16,13 +16,13 @@ tallies ts bs us ps n = record { trues = ts; breaks = bs; uncovered = record { l
 
 -- those of lent tables as they stand, at entry and at exit
 abbrev pub tallies_at : Held → Held → Held → Held → ℕ → Tallies
-tallies_at ts bs us ps n = tallies ts.now bs.now us.now ps.now n
+tallies_at ts bs us ps n = tallies ts bs us ps n
 
-abbrev pub tallies_before : Slice → Slice → Slice → Slice → ℕ → Tallies
-tallies_before ts bs us ps n = tallies_at ts.entry bs.entry us.entry ps.entry n
+abbrev pub tallies_before : Held → Held → Held → Held → ℕ → Tallies
+tallies_before ts bs us ps n = tallies_at ts bs us ps n
 
-abbrev pub tallies_after : Slice → Slice → Slice → Slice → ℕ → Tallies
-tallies_after ts bs us ps n = tallies_at ts.exit bs.exit us.exit ps.exit n
+abbrev pub tallies_after : Held → Held → Held → Held → ℕ → Tallies
+tallies_after ts bs us ps n = tallies_at ts bs us ps n
 
 -- entry k one more, and one less
 unfoldable pub raised : List ℕ → ℕ → List ℕ

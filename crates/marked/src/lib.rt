@@ -96,9 +96,11 @@ pub fn agrees(
     places: &[u16],
     marks: &[u8],
 ) -> bool
-    ensures { result ≡ (full_marked narrow (lent_before names values starts literals occurrence_starts occurrences trues breaks uncovered places)
+    ensures { result ≡ (full_marked narrow (lent_before names.now values.now starts.now literals.now occurrence_starts.now occurrences.now trues.now
+        breaks.now uncovered.now places.now)
         marks.now
-        && agree_marked narrow n (lent_before names values starts literals occurrence_starts occurrences trues breaks uncovered places)
+        && agree_marked narrow n (lent_before names.now values.now starts.now literals.now occurrence_starts.now occurrences.now trues.now breaks.now
+        uncovered.now places.now)
         marks.now) }
 {
     if marks.len() < 2048 {

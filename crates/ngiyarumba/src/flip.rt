@@ -29,10 +29,12 @@ pub extern "C" fn ngi_flip(
     marks: &[u8],
 ) -> FlipAnswer
     ensures { leaves result
-        (lent_after names values starts literals_table occurrence_starts occurrences true_counts break_counts uncovered_list places)
+        (lent_after names.now values.new starts.now literals_table.now occurrence_starts.now occurrences.now true_counts.new break_counts.new
+        uncovered_list.new places.new)
         marks.now
         ≡ told flip_answer (flips_of narrow list.now (counts terms clauses literals uncovered)
-        (lent_before names values starts literals_table occurrence_starts occurrences true_counts break_counts uncovered_list places)
+        (lent_before names.now values.old starts.now literals_table.now occurrence_starts.now occurrences.now true_counts.old break_counts.old
+        uncovered_list.old places.old)
         marks.now) }
 {
     let n = Counts {

@@ -30,10 +30,12 @@ pub extern "C" fn ngi_pin(
     marks: &mut [u8],
 ) -> FlipAnswer
     ensures { leaves result
-        (lent_after names values starts literals_table occurrence_starts occurrences true_counts break_counts uncovered_list places)
+        (lent_after names.now values.new starts.now literals_table.now occurrence_starts.now occurrences.now true_counts.new break_counts.new
+        uncovered_list.new places.new)
         marks.new
         ≡ told flip_answer (pin_of narrow term value (counts terms clauses literals uncovered)
-        (lent_before names values starts literals_table occurrence_starts occurrences true_counts break_counts uncovered_list places)
+        (lent_before names.now values.old starts.now literals_table.now occurrence_starts.now occurrences.now true_counts.old break_counts.old
+        uncovered_list.old places.old)
         marks.old) }
 {
     let n = Counts {
@@ -82,10 +84,12 @@ pub extern "C" fn ngi_lift(
     marks: &mut [u8],
 ) -> FlipAnswer
     ensures { leaves result
-        (lent_after names values starts literals_table occurrence_starts occurrences true_counts break_counts uncovered_list places)
+        (lent_after names.now values.now starts.now literals_table.now occurrence_starts.now occurrences.now true_counts.now break_counts.now
+        uncovered_list.now places.now)
         marks.new
         ≡ told flip_answer (lift_of narrow term (counts terms clauses literals uncovered)
-        (lent_before names values starts literals_table occurrence_starts occurrences true_counts break_counts uncovered_list places)
+        (lent_before names.now values.now starts.now literals_table.now occurrence_starts.now occurrences.now true_counts.now break_counts.now
+        uncovered_list.now places.now)
         marks.old) }
 {
     let n = Counts {

@@ -25,10 +25,12 @@ pub extern "C" fn ngi_run(
     out: &mut [u8],
 ) -> RunAnswer
     ensures { answered result
-        (lent_after names values starts literals_table occurrence_starts occurrences true_counts break_counts uncovered_list places)
+        (lent_after names.new values.new starts.new literals_table.new occurrence_starts.new occurrences.new true_counts.new break_counts.new
+        uncovered_list.new places.new)
         marks.new out.new
         ≡ run_of narrow input.now
-        (lent_before names values starts literals_table occurrence_starts occurrences true_counts break_counts uncovered_list places)
+        (lent_before names.old values.old starts.old literals_table.old occurrence_starts.old occurrences.old true_counts.old break_counts.old
+        uncovered_list.old places.old)
         marks.old out.old }
 {
     running::run_sheet(

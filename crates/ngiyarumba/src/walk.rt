@@ -33,10 +33,12 @@ pub extern "C" fn ngi_walk(
     marks: &[u8],
 ) -> WalkAnswer
     ensures { leaves result
-        (lent_after names values starts literals_table occurrence_starts occurrences true_counts break_counts uncovered_list places)
+        (lent_after names.now values.new starts.now literals_table.now occurrence_starts.now occurrences.now true_counts.new break_counts.new
+        uncovered_list.new places.new)
         marks.now
         ≡ told walk_answer (walk_of narrow (order seed flips walks bias even) (counts terms clauses literals uncovered)
-        (lent_before names values starts literals_table occurrence_starts occurrences true_counts break_counts uncovered_list places)
+        (lent_before names.now values.old starts.now literals_table.now occurrence_starts.now occurrences.now true_counts.old break_counts.old
+        uncovered_list.old places.old)
         marks.now) }
 {
     let o = Order {

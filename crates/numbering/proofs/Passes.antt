@@ -27,7 +27,7 @@ use Rattle.reading_literal.proofs.Takes.{can-place, placed_took}
 use Rattle.reading_lines.specs.declared.Place.{Place}
 use Rattle.reading_lines.specs.declared.Next.{Next}
 use Rattle.reading_lines.specs.declared.Next.TheVariants as N
-use Rattle.reading_lines.specs.Drafting.{Desk, desk, Drafted, Turned}
+use Rattle.reading_lines.specs.Drafting.{Desk, desk, DraftedWith, TurnedWith}
 use Rattle.reading_lines.specs.Turns.{after_literal, LineEnd, line_end, after_line, after_text}
 use Rattle.reading_lines.proofs.Held.{known_are, line-length}
 use Rattle.reading_lines.proofs.Literals.{literal-turns}
@@ -73,13 +73,13 @@ module _ (lim : Limits) (h : Header) (few : h.variables ≤ lim.terms) (small : 
 
   module _ (w₀ w : Desk) (g : Going) (s : Sum) (k : Summed lim h w₀ w g s) (x : Signed) (w' : Desk) where
     -- the code goes on
-    onward : (g' : Going) (s' : Sum) → at_number lim h s x ≡ on s' → Drafted by_number lim w₀ w' g'.place s'.draft → g'.dropped ≡ s'.is_dropped → g'.ended ≡ s'.ended
+    onward : (g' : Going) (s' : Sum) → at_number lim h s x ≡ on s' → DraftedWith by_number lim w₀ w' g'.place s'.draft → g'.dropped ≡ s'.is_dropped → g'.ended ≡ s'.ended
         → Passed lim h w₀ w' (at_number lim h s x) (P.On g')
     onward g' s' e drafted dropped ended =
         record { sum = s'; is = e; summed = record { drafted = drafted; dropped-is = dropped; ended_is = ended; sums = next-sums s k.sums x s' e } }
 
     -- a turn of the open clause
-    turn-passes : (n : ℕ) (u : Turn) → at_number lim h s x ≡ turned n u → (next : Next) → Turned by_number lim w₀ w' u next
+    turn-passes : (n : ℕ) (u : Turn) → at_number lim h s x ≡ turned n u → (next : Next) → TurnedWith by_number lim w₀ w' u next
         → Passed lim h w₀ w' (at_number lim h s x) (pass_of next n)
     turn-passes n u e (N.Goes p) l = onward (going p false n) (sum l.draft false n) (e ∙ ap (turned n) l.is) l.drafted refl refl
     turn-passes n u e (N.Drops p) l = onward (going p true n) (sum l.draft true n) (e ∙ ap (turned n) l.is) l.drafted refl refl
@@ -173,7 +173,7 @@ module _ (lim : Limits) (h : Header) (few : h.variables ≤ lim.terms) (small : 
   -- ---- what is no number, and the text's end
 
   -- a turn that ends the reading
-  ends-pass : (w₀ w : Desk) (end : Reading) (u : Pass) → u ≡ to end → (r : Next) → Turned by_number lim w₀ w (ends end) r → Passed lim h w₀ w u (pass_of r 0)
+  ends-pass : (w₀ w : Desk) (end : Reading) (u : Pass) → u ≡ to end → (r : Next) → TurnedWith by_number lim w₀ w (ends end) r → Passed lim h w₀ w u (pass_of r 0)
   ends-pass w₀ w end u q (N.Goes p) l = absurd (true≢false (ap is_end l.is))
   ends-pass w₀ w end u q (N.Drops p) l = absurd (true≢false (ap is_end l.is))
   ends-pass w₀ w end u q (N.Whole p) l = record { draft = l.draft; is = q ∙ ap (turned 0) l.is; drafted = l.drafted }

@@ -29,7 +29,7 @@ use Rattle.laws.proofs.NumberedReadings.{begun-sums}
 use Rattle.reading_literal.specs.Taking.{by_number}
 use Rattle.reading_lines.specs.declared.Ended.{Ended}
 use Rattle.reading_lines.specs.declared.Ended.TheVariants as E
-use Rattle.reading_lines.specs.Drafting.{Desk, Drafted}
+use Rattle.reading_lines.specs.Drafting.{Desk, DraftedWith}
 use Rattle.reading_lines.specs.Turns.{place_at}
 use Rattle.reading_lines.proofs.Held.{Begins, begins-drafted}
 use Rattle.numbering.specs.Passes.{outset}
@@ -107,7 +107,7 @@ module _ (lim : Limits) (t names : List ℕ) (k : Count) (can : CanDraw lim t na
         summed os =
             let e = begins-drafted by_number lim (desk_with names os k) (desk_with names' os k) (names_to h.variables) (begins os) in
             record {
-              drafted = subst (λ (n : ℕ). Drafted by_number lim (desk_with names os k) (desk_with names' os k) (place_at n 0 0 0) (begun h).draft) (names-length h.variables) e;
+              drafted = subst (λ (n : ℕ). DraftedWith by_number lim (desk_with names os k) (desk_with names' os k) (place_at n 0 0 0) (begun h).draft) (names-length h.variables) e;
               dropped-is = refl;
               ended_is = refl;
               sums = begun-sums lim h few small;

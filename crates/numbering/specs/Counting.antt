@@ -5,7 +5,7 @@ use Rattle.scan.specs.Scan.{open_end, cursor_at}
 use Rattle.written.specs.declared.Header.{Header}
 use Rattle.written.specs.declared.Numeral.{Numeral}
 use Rattle.written.specs.Limits.{Limits}
-use Rattle.written.specs.Lending.{Held, Slice}
+use Rattle.written.specs.Lending.{Held}
 use Rattle.written.specs.Reading.{Reading, refused}
 use Rattle.written.specs.Numerals.{is_gap}
 use Rattle.written.specs.Numbered.{Sum, Pass, on, to, begun, at_numeral, numbers_from, numbers_in}
@@ -14,7 +14,7 @@ use Rattle.laws.proofs.NumberedReadings.{Sums}
 use Rattle.reading_literal.specs.Taking.{by_number}
 use Rattle.reading_lines.specs.declared.Ended.{Ended}
 use Rattle.reading_lines.specs.declared.Ended.TheVariants as E
-use Rattle.reading_lines.specs.Drafting.{Desk, desk, Beyond, Drafted, Leads, whole}
+use Rattle.reading_lines.specs.Drafting.{Desk, desk, BeyondWith, DraftedWith, LeadsWith, whole}
 use Rattle.numbering.specs.declared.Going.{Going}
 use Rattle.numbering.specs.declared.Pass as D
 use Rattle.numbering.specs.declared.Pass.TheVariants as P
@@ -29,13 +29,13 @@ abbrev pub count : List ℕ → List ℕ → List ℕ → Count
 count s l m = record { starts = s; literals = l; stamps = m }
 
 abbrev pub count_at : Held → Held → Held → Count
-count_at s l m = count s.now l.now m.now
+count_at s l m = count s l m
 
-abbrev pub count_before : Slice → Slice → Slice → Count
-count_before s l m = count_at s.entry l.entry m.entry
+abbrev pub count_before : Held → Held → Held → Count
+count_before s l m = count_at s l m
 
-abbrev pub count_after : Slice → Slice → Slice → Count
-count_after s l m = count_at s.exit l.exit m.exit
+abbrev pub count_after : Held → Held → Held → Count
+count_after s l m = count_at s l m
 
 -- these among the tables of a draft, beside the names and the slots
 abbrev pub desk_with : List ℕ → List ℕ → Count → Desk
@@ -43,7 +43,7 @@ desk_with ns os k = desk ns k.starts k.literals k.stamps os
 
 -- the tables w hold the reading s on its way, and g says how far it has come; they were w₀ at first
 pub record Summed (lim : Limits) (h : Header) (w₀ w : Desk) (g : Going) (s : Sum) : Type 0 where
-  pub drafted : Drafted by_number lim w₀ w g.place s.draft
+  pub drafted : DraftedWith by_number lim w₀ w g.place s.draft
   pub dropped-is : g.dropped ≡ s.is_dropped
   pub ended_is : g.ended ≡ s.ended
   pub sums : Sums lim h s
@@ -66,8 +66,8 @@ pub record Onward (u : Pass) (lim : Limits) (h : Header) (w₀ w : Desk) (g : Go
 -- where the code goes is the written pass u
 abbrev pub Passed : Limits → Header → Desk → Desk → Pass → D.Pass → Type 0
 Passed lim h w₀ w u (P.On g) = Onward u lim h w₀ w g
-Passed lim h w₀ w u (P.Whole p) = Leads u (λ d. to (whole d)) by_number lim w₀ w p
-Passed lim h w₀ w u (P.Refused f) = (u ≡ to (refused f)) × Beyond by_number lim w₀ w
+Passed lim h w₀ w u (P.Whole p) = LeadsWith u (λ d. to (whole d)) by_number lim w₀ w p
+Passed lim h w₀ w u (P.Refused f) = (u ≡ to (refused f)) × BeyondWith by_number lim w₀ w
 
 -- whatever the tables held, what was met has done to it what is written
 pub record CountsBy (lim : Limits) (h : Header) (k : Numeral) (t : Count) (g : Going) (t' : Count) (r : D.Pass) : Type 0 where
@@ -75,8 +75,8 @@ pub record CountsBy (lim : Limits) (h : Header) (k : Numeral) (t : Count) (g : G
 
 -- the code ends with the reading u
 abbrev pub EndsBy : Limits → Reading → Desk → Desk → Ended → Type 0
-EndsBy lim u w₀ w (E.Whole p) = Leads u whole by_number lim w₀ w p
-EndsBy lim u w₀ w (E.Refused f) = (u ≡ refused f) × Beyond by_number lim w₀ w
+EndsBy lim u w₀ w (E.Whole p) = LeadsWith u whole by_number lim w₀ w p
+EndsBy lim u w₀ w (E.Refused f) = (u ≡ refused f) × BeyondWith by_number lim w₀ w
 
 -- what the numbers of a text ask, after the header on a line: tables that hold the names of its variables
 pub record CanBegin (lim : Limits) (t : List ℕ) (h : Header) (line : ℕ) (k : Count) : Type 0 where

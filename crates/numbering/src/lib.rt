@@ -114,8 +114,8 @@ fn at_number(
     g: Going,
     x: Signed,
 ) -> Pass
-    requires { CanCount narrow h (count_at starts literals stamps) g × (x.line < 2 ^ 32) }
-    ensures { CountsBy narrow h (Number x) (count_before starts literals stamps) g (count_after starts literals stamps) result }
+    requires { CanCount narrow h (count_at starts.old literals.old stamps.old) g × (x.line < 2 ^ 32) }
+    ensures { CountsBy narrow h (Number x) (count_before starts.old literals.old stamps.old) g (count_after starts.new literals.new stamps.new) result }
 {
     let line = x.line;
     let number = x.number;
@@ -160,8 +160,8 @@ fn at_numeral(
     g: Going,
     k: Numeral,
 ) -> Pass
-    requires { CanCount narrow h (count_at starts literals stamps) g × (line_in k < 2 ^ 32) }
-    ensures { CountsBy narrow h k (count_before starts literals stamps) g (count_after starts literals stamps) result }
+    requires { CanCount narrow h (count_at starts.old literals.old stamps.old) g × (line_in k < 2 ^ 32) }
+    ensures { CountsBy narrow h k (count_before starts.old literals.old stamps.old) g (count_after starts.new literals.new stamps.new) result }
 {
     match k {
         Numeral::Number(x) => at_number(starts, literals, stamps, h, g, x),
@@ -179,8 +179,8 @@ fn numbers(
     h: Header,
     line: usize,
 ) -> Ended
-    requires { CanBegin narrow text.now h line (count_at starts literals stamps) }
-    ensures { Counted narrow text.now h line (count_before starts literals stamps) (count_after starts literals stamps) result }
+    requires { CanBegin narrow text.now h line (count_at starts.old literals.old stamps.old) }
+    ensures { Counted narrow text.now h line (count_before starts.old literals.old stamps.old) (count_after starts.new literals.new stamps.new) result }
 {
     let mut c = Cursor { at: h.end, line };
     let mut g = Going {
@@ -233,9 +233,9 @@ pub fn draft(
     literals: &mut [u16],
     stamps: &mut [u16],
 ) -> Ended
-    requires { CanDraw narrow text.now names.old (count_at starts literals stamps) }
-    ensures { Drawn narrow text.now names.old (count_before starts literals stamps)
-        names.new (count_after starts literals stamps) result }
+    requires { CanDraw narrow text.now names.old (count_at starts.old literals.old stamps.old) }
+    ensures { Drawn narrow text.now names.old (count_before starts.old literals.old stamps.old)
+        names.new (count_after starts.new literals.new stamps.new) result }
 {
     let c = numerals::past_comments(text);
     let at = c.at;

@@ -30,7 +30,8 @@ fn verdict(
     places: &[u16],
     marks: &[u8],
 ) -> Tested
-    ensures { result ≡ tests_of narrow term n (lent_before names values starts literals occurrence_starts occurrences trues breaks uncovered places)
+    ensures { result ≡ tests_of narrow term n (lent_before names.now values.now starts.now literals.now occurrence_starts.now occurrences.now
+        trues.now breaks.now uncovered.now places.now)
         marks.now }
 {
     if !tables::all_full(
@@ -108,12 +109,17 @@ fn flip_to(
     uncovered: &mut [u16],
     places: &mut [u16],
 ) -> Counts
-    requires { CanFlipList narrow (term ∷ []) n (lent_at names values starts literals occurrence_starts occurrences trues breaks uncovered places) }
-    ensures { ten (Applied result) (lent_after names values starts literals occurrence_starts occurrences trues breaks uncovered places)
-        ≡ ten_of (flips_leave narrow (lent_before names values starts literals occurrence_starts occurrences trues breaks uncovered places) []
+    requires { CanFlipList narrow (term ∷ []) n (lent_at names.now values.old starts.now literals.now occurrence_starts.now occurrences.now trues.old
+        breaks.old uncovered.old places.old) }
+    ensures { ten (Applied result) (lent_after names.now values.new starts.now literals.now occurrence_starts.now occurrences.now trues.new
+        breaks.new uncovered.new places.new)
+        ≡ ten_of (flips_leave narrow (lent_before names.now values.old starts.now literals.now occurrence_starts.now occurrences.now trues.old
+        breaks.old uncovered.old places.old) []
         (flipped
-        (flips_for term (value_asked value) (state_in n (lent_before names values starts literals occurrence_starts occurrences trues breaks uncovered places)))
-        (state_in n (lent_before names values starts literals occurrence_starts occurrences trues breaks uncovered places)))) }
+        (flips_for term (value_asked value) (state_in n (lent_before names.now values.old starts.now literals.now occurrence_starts.now
+        occurrences.now trues.old breaks.old uncovered.old places.old)))
+        (state_in n (lent_before names.now values.old starts.now literals.now occurrence_starts.now occurrences.now trues.old breaks.old
+        uncovered.old places.old)))) }
 {
     if words::value(values, term) == asked(value) {
         return n;
@@ -151,8 +157,10 @@ pub fn pin(
     places: &mut [u16],
     marks: &mut [u8],
 ) -> Flipped
-    ensures { leaves result (lent_after names values starts literals occurrence_starts occurrences trues breaks uncovered places) marks.new
-        ≡ pin_of narrow term value n (lent_before names values starts literals occurrence_starts occurrences trues breaks uncovered places)
+    ensures { leaves result (lent_after names.now values.new starts.now literals.now occurrence_starts.now occurrences.now trues.new breaks.new
+        uncovered.new places.new) marks.new
+        ≡ pin_of narrow term value n (lent_before names.now values.old starts.now literals.now occurrence_starts.now occurrences.now trues.old
+        breaks.old uncovered.old places.old)
         marks.old }
 {
     match verdict(
@@ -212,8 +220,10 @@ pub fn lift(
     places: &[u16],
     marks: &mut [u8],
 ) -> Flipped
-    ensures { leaves result (lent_after names values starts literals occurrence_starts occurrences trues breaks uncovered places) marks.new
-        ≡ lift_of narrow term n (lent_before names values starts literals occurrence_starts occurrences trues breaks uncovered places)
+    ensures { leaves result (lent_after names.now values.now starts.now literals.now occurrence_starts.now occurrences.now trues.now breaks.now
+        uncovered.now places.now) marks.new
+        ≡ lift_of narrow term n (lent_before names.now values.now starts.now literals.now occurrence_starts.now occurrences.now trues.now breaks.now
+        uncovered.now places.now)
         marks.old }
 {
     match verdict(

@@ -21,7 +21,7 @@ use Rattle.reading_lines.specs.Drafting.{Desk}
 use Rattle.reading_end.specs.Tests.{text_tests}
 use Rattle.reading_end.specs.Clearing.{desk_in, wiped}
 use Rattle.reading_end.specs.Bare.{Bare}
-use Rattle.reading_end.specs.Laid.{Past}
+use Rattle.reading_end.specs.Laid.{PastOn}
 use Rattle.reading_end.specs.Drawn.{CanLay, Laying}
 use Rattle.reading_end.proofs.Bare.{bare-zero}
 use Rattle.reading_end.proofs.Whole.{wiped-back}
@@ -50,7 +50,7 @@ bare_lay lim text q t b passed =
     }
 
 -- a draft in them is refused, and what it used is cleared
-refused-leaves : (lim : Limits) (t : Tables) → Bare lim t → {x : Reading} {e : Fault} → x ≡ refused e → (w : Desk) → Past lim (desk_in t) w → {d : Desk} → d ≡ wiped lim w
+refused-leaves : (lim : Limits) (t : Tables) → Bare lim t → {x : Reading} {e : Fault} → x ≡ refused e → (w : Desk) → PastOn lim (desk_in t) w → {d : Desk} → d ≡ wiped lim w
     → ten (R.Refused e) (lent d.names t.values d.starts d.literals t.occurrence_starts t.occurrences t.trues d.stamps t.uncovered d.slots)
     ≡ ten_of (read_leaves lim t [] x)
 unfolding read_leaves

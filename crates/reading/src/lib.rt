@@ -28,9 +28,12 @@ fn read_cleared(
     uncovered: &mut [u16],
     places: &mut [u16],
 ) -> Read
-    requires { Bare narrow (lent_at names values starts literals occurrence_starts occurrences trues breaks uncovered places) }
-    ensures { ten result (lent_after names values starts literals occurrence_starts occurrences trues breaks uncovered places)
-        ≡ ten_of (read_leaves narrow (lent_before names values starts literals occurrence_starts occurrences trues breaks uncovered places)
+    requires { Bare narrow (lent_at names.old values.old starts.old literals.old occurrence_starts.old occurrences.old trues.old breaks.old
+        uncovered.old places.old) }
+    ensures { ten result (lent_after names.new values.new starts.new literals.new occurrence_starts.new occurrences.new trues.new breaks.new
+        uncovered.new places.new)
+        ≡ ten_of (read_leaves narrow (lent_before names.old values.old starts.old literals.old occurrence_starts.old occurrences.old trues.old
+        breaks.old uncovered.old places.old)
         [] (read_as form narrow text.now)) }
 {
     match reading_end::verdict(text) {
@@ -80,9 +83,12 @@ pub fn read_full(
     uncovered: &mut [u16],
     places: &mut [u16],
 ) -> Read
-    requires { are_full narrow (lent_at names values starts literals occurrence_starts occurrences trues breaks uncovered places) ≡ true }
-    ensures { ten result (lent_after names values starts literals occurrence_starts occurrences trues breaks uncovered places)
-        ≡ ten_of (read_leaves narrow (lent_before names values starts literals occurrence_starts occurrences trues breaks uncovered places)
+    requires { are_full narrow (lent_at names.old values.old starts.old literals.old occurrence_starts.old occurrences.old trues.old breaks.old
+        uncovered.old places.old) ≡ true }
+    ensures { ten result (lent_after names.new values.new starts.new literals.new occurrence_starts.new occurrences.new trues.new breaks.new
+        uncovered.new places.new)
+        ≡ ten_of (read_leaves narrow (lent_before names.old values.old starts.old literals.old occurrence_starts.old occurrences.old trues.old
+        breaks.old uncovered.old places.old)
         [] (read_as form narrow text.now)) }
 {
     reading_end::clear_draft(names, starts, literals, breaks, places);
@@ -119,9 +125,10 @@ pub fn read(
     places: &mut [u16],
     marks: &mut [u8],
 ) -> Read
-    ensures { leaves result (lent_after names values starts literals occurrence_starts occurrences trues breaks uncovered places) marks.new
+    ensures { leaves result (lent_after names.new values.new starts.new literals.new occurrence_starts.new occurrences.new trues.new breaks.new
+        uncovered.new places.new) marks.new
         ≡ read_into narrow (read_as form narrow text.now)
-        (lent_before names values starts literals occurrence_starts occurrences trues breaks uncovered places)
+        (lent_before names.old values.old starts.old literals.old occurrence_starts.old occurrences.old trues.old breaks.old uncovered.old places.old)
         marks.old }
 {
     if !tables::all_full(

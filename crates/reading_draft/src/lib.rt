@@ -20,9 +20,9 @@ pub fn draft(
     stamps: &mut [u16],
     slots: &mut [u16],
 ) -> Ended
-    requires { CanLay narrow text.now (desk_at names starts literals stamps slots) }
-    ensures { Laying narrow (read_by form narrow text.now) (desk_before names starts literals stamps slots)
-        (desk_after names starts literals stamps slots) result }
+    requires { CanLay narrow text.now (desk_at names.old starts.old literals.old stamps.old slots.old) }
+    ensures { Laying narrow (read_by form narrow text.now) (desk_before names.old starts.old literals.old stamps.old slots.old)
+        (desk_after names.new starts.new literals.new stamps.new slots.new) result }
 {
     match form {
         Form::Own => reading_lines::draft(text, names, starts, literals, stamps, slots),

@@ -11,14 +11,14 @@ use Rattle.reading_literal.specs.Taking.{Index, by_slots}
 use Rattle.reading_lines.specs.declared.Place.{Place}
 use Rattle.reading_lines.specs.declared.Ended.{Ended}
 use Rattle.reading_lines.specs.declared.Ended.TheVariants as E
-use Rattle.reading_lines.specs.Drafting.{Desk, Beyond, Drafted, Leads, Blank, whole, read_all, Drawn}
+use Rattle.reading_lines.specs.Drafting.{Desk, BeyondWith, DraftedWith, LeadsWith, Blank, whole, read_all, Drawn}
 use Rattle.reading_lines.proofs.Loop.{Lent}
-use Rattle.reading_end.specs.Laid.{Past, Laid}
+use Rattle.reading_end.specs.Laid.{PastOn, LaidOn}
 use Rattle.reading_end.specs.Drawn.{CanLay, Gives, Laying}
 
 module _ (X : Index) (lim : Limits) (slots-fit : X.slots ≤ lim.clauses) (w₀ w : Desk) where
-  pub beyond-past : Beyond X lim w₀ w → lim.terms ≤ length w.names → lim.clauses + 1 ≤ length w.starts → lim.literals ≤ length w.literals
-      → lim.terms ≤ length w.stamps → lim.clauses ≤ length w.slots → Past lim w₀ w
+  pub beyond-past : BeyondWith X lim w₀ w → lim.terms ≤ length w.names → lim.clauses + 1 ≤ length w.starts → lim.literals ≤ length w.literals
+      → lim.terms ≤ length w.stamps → lim.clauses ≤ length w.slots → PastOn lim w₀ w
   beyond-past far n s l m o =
       record {
         names-room = n;
@@ -34,8 +34,8 @@ module _ (X : Index) (lim : Limits) (slots-fit : X.slots ≤ lim.clauses) (w₀ 
       }
 
   -- the file of a draft, whose slots have their full size
-  pub drafted-laid : (p : Place) (d : Draft) → Drafted X lim w₀ w p d → lim.clauses ≤ length w.slots
-      → Laid lim w₀ w p (record { names = d.names; clauses = d.clauses })
+  pub drafted-laid : (p : Place) (d : Draft) → DraftedWith X lim w₀ w p d → lim.clauses ≤ length w.slots
+      → LaidOn lim w₀ w p (record { names = d.names; clauses = d.clauses })
   drafted-laid p d h room =
       record {
         terms_are = h.terms_are;
@@ -52,7 +52,7 @@ module _ (X : Index) (lim : Limits) (slots-fit : X.slots ≤ lim.clauses) (w₀ 
     slots-long : lim.clauses ≤ length w.slots
     slots-long = omega (arith, can.slots-room, long.slots-long)
 
-    pub leads-gives : (r : Reading) (p : Place) → Leads r whole X lim w₀ w p → Gives lim r w₀ w p
+    pub leads-gives : (r : Reading) (p : Place) → LeadsWith r whole X lim w₀ w p → Gives lim r w₀ w p
     leads-gives r p h =
         record {
           file = record { names = h.draft.names; clauses = h.draft.clauses };
@@ -60,7 +60,7 @@ module _ (X : Index) (lim : Limits) (slots-fit : X.slots ≤ lim.clauses) (w₀ 
           laid = drafted-laid p h.draft h.drafted slots-long;
         }
 
-    pub far_past : Beyond X lim w₀ w → Past lim w₀ w
+    pub far_past : BeyondWith X lim w₀ w → PastOn lim w₀ w
     far_past far =
         beyond-past far (omega (arith, can.names-room, long.names-long)) (omega (arith, can.starts-room, long.starts-long))
         (omega (arith, can.literals_room, long.literals-long)) (omega (arith, can.stamps-room, long.stamps-long)) slots-long

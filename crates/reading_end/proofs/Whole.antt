@@ -29,7 +29,7 @@ use Rattle.reading_lines.specs.declared.Place.{Place}
 use Rattle.reading_lines.specs.Drafting.{Desk, desk}
 use Rattle.reading_end.specs.Clearing.{desk_in, wiped, rest_zeroed}
 use Rattle.reading_end.specs.Finishing.{finishing, tidy_clauses, tidy_moving, turned, laid_out, counted_out, counts_at, finished, CanFinish}
-use Rattle.reading_end.specs.Laid.{Past, Laid}
+use Rattle.reading_end.specs.Laid.{PastOn, LaidOn}
 use Rattle.reading_end.specs.Bare.{Bare}
 use Rattle.reading_end.proofs.Bare.{bare-back}
 use Rattle.reading_end.proofs.Fresh.{fresh-valid, fresh-held, fresh-rounds, fresh-can-round, fresh-ready, fresh_counts, fresh-walking, fresh-outcome}
@@ -44,7 +44,7 @@ recount_by : {top C T C' T' : ℕ} {ws ss ls ss' ls' : List ℕ} {m m' : Moving}
 recount_by ec et es en em h = rw (ec, et, es, en, em) h
 
 -- what a draft used, wiped, is what was lent
-pub wiped-back : (lim : Limits) (t : Tables) → Bare lim t → (w : Desk) → Past lim (desk_in t) w → wiped lim w ≡ desk_in t
+pub wiped-back : (lim : Limits) (t : Tables) → Bare lim t → (w : Desk) → PastOn lim (desk_in t) w → wiped lim w ≡ desk_in t
 unfolding wiped full_sizes sizes
 wiped-back lim t b w far =
     let n = bare-back lim t b.zero Names b.full w.names far.names-room far.names-past in
@@ -55,7 +55,7 @@ wiped-back lim t b w far =
     λ i. desk (n i) (s i) (l i) (m i) (o i)
 
 -- a proper file f, laid in the tables w of a draft that was made in the lent tables t
-module _ (lim : Limits) (t : Tables) (b : Bare lim t) (f : File) (proper : Proper lim f) (w : Desk) (p : Place) (laid : Laid lim (desk_in t) w p f) where
+module _ (lim : Limits) (t : Tables) (b : Bare lim t) (f : File) (proper : Proper lim f) (w : Desk) (p : Place) (laid : LaidOn lim (desk_in t) w p f) where
   abbrev s : State
   s = as_read f
 

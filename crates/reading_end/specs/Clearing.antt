@@ -3,7 +3,7 @@ use Rattle.std.specs.Prelude.{List, ℕ, take}
 use Rattle.written.specs.Lists.{padded}
 use Rattle.written.specs.Limits.{Limits}
 use Rattle.written.specs.Tables.{Tables, each, full_sizes, over}
-use Rattle.written.specs.Lending.{Slice}
+use Rattle.written.specs.Lending.{Held}
 use Rattle.machine.specs.Passes.{zeroed}
 use Rattle.reading_lines.specs.Drafting.{Desk, desk}
 
@@ -32,11 +32,11 @@ pub record Others : Type 0 where
 abbrev pub others : List ℕ → List ℕ → List ℕ → List ℕ → List ℕ → Others
 others v os oc tc u = record { values = v; occurrence_starts = os; occurrences = oc; trues = tc; uncovered = u }
 
-abbrev pub others_before : Slice → Slice → Slice → Slice → Slice → Others
-others_before v os oc tc u = others v.entry.now os.entry.now oc.entry.now tc.entry.now u.entry.now
+abbrev pub others_before : Held → Held → Held → Held → Held → Others
+others_before v os oc tc u = others v os oc tc u
 
-abbrev pub others_after : Slice → Slice → Slice → Slice → Slice → Others
-others_after v os oc tc u = others v.exit.now os.exit.now oc.exit.now tc.exit.now u.exit.now
+abbrev pub others_after : Held → Held → Held → Held → Held → Others
+others_after v os oc tc u = others v os oc tc u
 
 abbrev pub others_in : Tables → Others
 others_in t = others t.values t.occurrence_starts t.occurrences t.trues t.uncovered

@@ -8,7 +8,7 @@ use Rattle.reading_lines.specs.declared.Place.{Place}
 use Rattle.reading_lines.specs.declared.Ended.{Ended}
 use Rattle.reading_lines.specs.declared.Ended.TheVariants as E
 use Rattle.reading_lines.specs.Drafting.{Desk}
-use Rattle.reading_end.specs.Laid.{Past, Laid}
+use Rattle.reading_end.specs.Laid.{PastOn, LaidOn}
 
 -- a text that is not too long and ends with its last line, and tables in their full sizes, the first start and the slots 0
 pub record CanLay (lim : Limits) (t : List ℕ) (w : Desk) : Type 0 where
@@ -26,9 +26,9 @@ pub record CanLay (lim : Limits) (t : List ℕ) (w : Desk) : Type 0 where
 pub record Gives (lim : Limits) (r : Reading) (w₀ w : Desk) (p : Place) : Type 0 where
   pub file : File
   pub is : r ≡ accepted file
-  pub laid : Laid lim w₀ w p file
+  pub laid : LaidOn lim w₀ w p file
 
 -- what a draft ends with is the reading r of its text; the tables were w₀ when they were lent
 abbrev pub Laying : Limits → Reading → Desk → Desk → Ended → Type 0
 Laying lim r w₀ w (E.Whole p) = Gives lim r w₀ w p
-Laying lim r w₀ w (E.Refused e) = (r ≡ refused e) × Past lim w₀ w
+Laying lim r w₀ w (E.Refused e) = (r ≡ refused e) × PastOn lim w₀ w

@@ -37,8 +37,8 @@ pub fn clear_draft(
     stamps: &mut [u16],
     slots: &mut [u16],
 )
-    ensures { desk_after names starts literals stamps slots
-        ≡ wiped narrow (desk_before names starts literals stamps slots) }
+    ensures { desk_after names.new starts.new literals.new stamps.new slots.new
+        ≡ wiped narrow (desk_before names.old starts.old literals.old stamps.old slots.old) }
 {
     tables::clear_names(names, 2048);
     tables::clear(starts, 8193);
@@ -55,8 +55,8 @@ pub fn clear_others(
     trues: &mut [u16],
     uncovered: &mut [u16],
 )
-    ensures { others_after values occurrence_starts occurrences trues uncovered
-        ≡ wiped_others narrow (others_before values occurrence_starts occurrences trues uncovered) }
+    ensures { others_after values.new occurrence_starts.new occurrences.new trues.new uncovered.new
+        ≡ wiped_others narrow (others_before values.old occurrence_starts.old occurrences.old trues.old uncovered.old) }
 {
     tables::clear_words(values, 64);
     tables::clear(occurrence_starts, 4097);
@@ -92,12 +92,12 @@ pub fn finish(
     uncovered: &mut [u16],
     places: &mut [u16],
 ) -> Counts
-    requires { CanFinish 65536 narrow p (fixed_at starts literals occurrence_starts occurrences)
-        (moving_at values trues breaks uncovered places 0) }
-    ensures { finishing result (fixed_after starts literals occurrence_starts occurrences)
-        (moving_after values trues breaks uncovered places result.uncovered)
-        ≡ finished narrow p (fixed_before starts literals occurrence_starts occurrences)
-        (moving_before values trues breaks uncovered places 0) }
+    requires { CanFinish 65536 narrow p (fixed_at starts.now literals.old occurrence_starts.old occurrences.old)
+        (moving_at values.now trues.old breaks.old uncovered.old places.old 0) }
+    ensures { finishing result (fixed_after starts.now literals.new occurrence_starts.new occurrences.new)
+        (moving_after values.now trues.new breaks.new uncovered.new places.new result.uncovered)
+        ≡ finished narrow p (fixed_before starts.now literals.old occurrence_starts.old occurrences.old)
+        (moving_before values.now trues.old breaks.old uncovered.old places.old 0) }
 {
     let terms = p.terms;
     let clauses = p.clauses;

@@ -11,10 +11,10 @@ use Rattle.written.specs.Reading.{Draft, held, kept, dropped}
 use Rattle.laws.proofs.Sums.{total_append}
 use Rattle.laws.proofs.Padding.{over-take}
 use Rattle.laws.proofs.Parts.{starts-length}
-use Rattle.reading_literal.specs.Taking.{Index, Open}
+use Rattle.reading_literal.specs.Taking.{Index, OpenWith}
 use Rattle.reading_literal.proofs.Stamps.{line-whole, line-empty, marked-none}
 use Rattle.reading_lines.specs.declared.Place.{Place}
-use Rattle.reading_lines.specs.Drafting.{Desk, desk, Beyond, Drafted}
+use Rattle.reading_lines.specs.Drafting.{Desk, desk, BeyondWith, DraftedWith}
 use Rattle.reading_lines.specs.Turns.{place_at, given_back}
 use Rattle.reading_lines.proofs.Growing.{set-over, starts_snoc, flatten_snoc}
 
@@ -31,7 +31,7 @@ pub record Begins (X : Index) (lim : Limits) (w₀ w : Desk) (ns : List ℕ) : T
   pub first : get_or w.starts 0 0 ≡ 0
   pub names_are : w.names ≡ over ns w₀.names
   pub starts_are : w.starts ≡ w₀.starts
-  pub beyond : Beyond X lim w₀ w
+  pub beyond : BeyondWith X lim w₀ w
 
 -- the starts of no clause
 one-start : (ss : List ℕ) → 0 < length ss → get_or ss 0 0 ≡ 0 → ss ≡ over (starts_from 0 []) ss
@@ -40,7 +40,7 @@ one-start [] l e = absurd (omega arith)
 one-start (s ∷ ss) l e = ap (λ (x : ℕ). x ∷ ss) e
 
 pub begins-drafted : (X : Index) (lim : Limits) (w₀ w : Desk) (ns : List ℕ) → Begins X lim w₀ w ns
-    → Drafted X lim w₀ w (place_at (length ns) 0 0 0) (record { names = ns; clauses = []; line = [] })
+    → DraftedWith X lim w₀ w (place_at (length ns) 0 0 0) (record { names = ns; clauses = []; line = [] })
 unfolding flatten
 begins-drafted X lim w₀ w ns b =
     let known = ap (take (length ns)) b.names_are ∙ over-take ns w₀.names (length ns) refl in
@@ -70,7 +70,7 @@ begins-drafted X lim w₀ w ns b =
 
 -- a line begins past some of the literals held
 line-begins : (X : Index) (lim : Limits) (ns : List ℕ) (terms : ℕ) (ls : List ℕ) (from held at : ℕ) (ms os : List ℕ) → at ≤ held
-    → Open X lim ns terms ls from held ms os → Open X lim ns terms ls at at ms os
+    → OpenWith X lim ns terms ls from held ms os → OpenWith X lim ns terms ls at at ms os
 line-begins X lim ns terms ls from held at ms os l h =
     record {
       names-room = h.names-room;
@@ -82,7 +82,7 @@ line-begins X lim ns terms ls from held at ms os l h =
       stamped = marked-none ls at ms terms (omega (arith, h.stamped.room));
     }
 
-module _ (X : Index) (lim : Limits) (w₀ w : Desk) (p : Place) (d : Draft) (h : Drafted X lim w₀ w p d) where
+module _ (X : Index) (lim : Limits) (w₀ w : Desk) (p : Place) (d : Draft) (h : DraftedWith X lim w₀ w p d) where
   pub known_are : take p.terms w.names ≡ d.names
   known_are = ap (take p.terms) h.names_are ∙ over-take d.names w₀.names p.terms (sym h.terms_are)
 
@@ -96,7 +96,7 @@ module _ (X : Index) (lim : Limits) (w₀ w : Desk) (p : Place) (d : Draft) (h :
   pub held_are : p.held ≡ held d
   held_are = omega (arith, line-length, h.from_is)
 
-  pub given_back_lem : Drafted X lim w₀ w (given_back p) (dropped d)
+  pub given_back_lem : DraftedWith X lim w₀ w (given_back p) (dropped d)
   given_back_lem =
       record {
         ready = line-begins X lim w.names p.terms w.literals p.from p.held p.from w.stamps w.slots h.ready.stamped.order h.ready;
@@ -123,7 +123,7 @@ module _ (X : Index) (lim : Limits) (w₀ w : Desk) (p : Place) (d : Draft) (h :
         ∙ set-over ss w₀.starts p.held (omega (arith, ap length h.starts_are, h.starts-room, h.clauses_are))
         ∙ ap (λ (s : List ℕ). over s w₀.starts) (sym e)
 
-    pub line_kept : Drafted X lim w₀ (desk w.names (set w.starts (p.clauses + 1) p.held) w.literals w.stamps w.slots)
+    pub line_kept : DraftedWith X lim w₀ (desk w.names (set w.starts (p.clauses + 1) p.held) w.literals w.stamps w.slots)
         (place_at p.terms (p.clauses + 1) p.held p.held) (kept d)
     line_kept =
         let n = length-append d.clauses (d.line ∷ []) in

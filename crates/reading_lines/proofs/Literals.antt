@@ -19,9 +19,9 @@ use Rattle.laws.proofs.Basics.{by_cases}
 use Rattle.reading_literal.specs.declared.Taken.{Taken}
 use Rattle.reading_literal.specs.declared.Taken.TheVariants.{Held, Grown, Skipped, Dropped, NoTerm, NoRoom}
 use Rattle.reading_literal.specs.Line.{line_in}
-use Rattle.reading_literal.specs.Taking.{Index, fate, new_terms, new_literals, put_if, Took}
+use Rattle.reading_literal.specs.Taking.{Index, fate, new_terms, new_literals, put_if, TookWith}
 use Rattle.reading_lines.specs.declared.Place.{Place}
-use Rattle.reading_lines.specs.Drafting.{Desk, desk, Beyond, Drafted, Turned}
+use Rattle.reading_lines.specs.Drafting.{Desk, desk, BeyondWith, DraftedWith, TurnedWith}
 use Rattle.reading_lines.specs.Turns.{place_at, after_literal}
 use Rattle.reading_lines.proofs.Growing.{more_if, more-length, put-over, put-take, put-drop, put-line}
 use Rattle.reading_lines.proofs.Held.{known_are, held_are, given_back_lem}
@@ -58,13 +58,13 @@ one_each Dropped = (omega arith, omega arith)
 one_each NoTerm = (omega arith, omega arith)
 one_each NoRoom = (omega arith, omega arith)
 
-module _ (X : Index) (lim : Limits) (w₀ w : Desk) (p : Place) (d : Draft) (h : Drafted X lim w₀ w p d) (l : Lit) (n' ls' m' o' : List ℕ) where
+module _ (X : Index) (lim : Limits) (w₀ w : Desk) (p : Place) (d : Draft) (h : DraftedWith X lim w₀ w p d) (l : Lit) (n' ls' m' o' : List ℕ) where
   -- the tables after it
   abbrev w' : Desk
   w' = desk n' w.starts ls' m' o'
 
   abbrev Taking : Taken → Type 0
-  Taking r = Took X lim w.names p.terms w.literals p.from p.held w.stamps w.slots l.name l.negated n' ls' m' o' r
+  Taking r = TookWith X lim w.names p.terms w.literals p.from p.held w.stamps w.slots l.name l.negated n' ls' m' o' r
 
   module _ (r : Taken) (k : Taking r) where
     turn_is : at_literal lim d l ≡ turn_by d l r
@@ -73,7 +73,7 @@ module _ (X : Index) (lim : Limits) (w₀ w : Desk) (p : Place) (d : Draft) (h :
         let all = held_are X lim w₀ w p d h in
         by-fate lim d l ∙ ap (turn_by d l) (sym (k.told ∙ (λ i. fate lim (known i) (h.line-is i) (all i) l.name l.negated)))
 
-    still-beyond : Beyond X lim w₀ w'
+    still-beyond : BeyondWith X lim w₀ w'
     still-beyond =
         record {
           names-beyond = ap (drop lim.terms) k.names-left ∙ put-drop (new_terms r) lim.terms w.names p.terms l.name k.again.few-terms ∙ h.beyond.names-beyond;
@@ -98,7 +98,7 @@ module _ (X : Index) (lim : Limits) (w₀ w : Desk) (p : Place) (d : Draft) (h :
         (omega (arith, k.again.few-literals, h.ready.literals_room))
         ∙ (λ i. more_if (new_literals r) (h.line-is i) (literal_of (place_of l.name (known i)) l.negated))
 
-    taken_in : Drafted X lim w₀ w' (place_at (p.terms + new_terms r) p.clauses p.from (p.held + new_literals r)) (grown d l r)
+    taken_in : DraftedWith X lim w₀ w' (place_at (p.terms + new_terms r) p.clauses p.from (p.held + new_literals r)) (grown d l r)
     taken_in =
         record {
           ready = k.again;
@@ -114,7 +114,7 @@ module _ (X : Index) (lim : Limits) (w₀ w : Desk) (p : Place) (d : Draft) (h :
           beyond = still-beyond;
         }
 
-  pub literal-turns : (r : Taken) → Taking r → Turned X lim w₀ w' (at_literal lim d l) (after_literal r p l.line)
+  pub literal-turns : (r : Taken) → Taking r → TurnedWith X lim w₀ w' (at_literal lim d l) (after_literal r p l.line)
   literal-turns Held k = record { draft = grown d l Held; is = turn_is Held k; drafted = rw (add-zero p.terms) at (taken_in Held k) }
   literal-turns Grown k = record { draft = grown d l Grown; is = turn_is Grown k; drafted = taken_in Grown k }
   literal-turns Skipped k = record { draft = d; is = turn_is Skipped k; drafted = rw (add-zero p.terms, add-zero p.held) at (taken_in Skipped k) }

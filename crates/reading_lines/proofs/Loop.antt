@@ -22,7 +22,7 @@ use Rattle.reading_lines.specs.declared.Place.{Place}
 use Rattle.reading_lines.specs.declared.Next.{Next}
 use Rattle.reading_lines.specs.declared.Next.TheVariants as N
 use Rattle.reading_lines.specs.declared.Ended.TheVariants as E
-use Rattle.reading_lines.specs.Drafting.{Desk, Drafted, Going, Turned, TurnsBy, Blank, read_all, Drawn}
+use Rattle.reading_lines.specs.Drafting.{Desk, DraftedWith, GoingWith, TurnedWith, TurnsWith, Blank, read_all, Drawn}
 use Rattle.reading_lines.specs.Turns.{outset}
 use Rattle.reading_lines.proofs.Held.{begins-drafted}
 
@@ -47,7 +47,7 @@ lent-on w₀ w w' a b =
 -- the tables hold a draft, and the reading of it from here on, with turns enough, is the whole reading
 pub record Underway (H : ℕ) (lim : Limits) (t : List ℕ) (w₀ w : Desk) (c : Cursor) (p : Place) : Type 0 where
   pub draft : Draft
-  pub drafted : Drafted (by_slots H lim) lim w₀ w p draft
+  pub drafted : DraftedWith (by_slots H lim) lim w₀ w p draft
   pub turns : ℕ
   pub enough : left t c < turns
   pub rest : read_from turns lim t c draft ≡ read_all lim t
@@ -61,7 +61,7 @@ record Rest (lim : Limits) (t : List ℕ) (r : Reading) (u : Turn) (c : Cursor) 
   is : led u t c (λ c' d. read_from turns lim t c' d) ≡ r
 
 module _ (H : ℕ) (lim : Limits) (t : List ℕ) where
-  blank-drafted : (w : Desk) → Blank H lim t w → Drafted (by_slots H lim) lim w w outset nothing
+  blank-drafted : (w : Desk) → Blank H lim t w → DraftedWith (by_slots H lim) lim w w outset nothing
   blank-drafted w b =
       begins-drafted (by_slots H lim) lim w w []
       (record {
@@ -119,7 +119,7 @@ module _ (H : ℕ) (lim : Limits) (t : List ℕ) where
   rest-by c d r (suc k) l e = record { turns = k; enough = omega arith; is = e }
 
   module _ (w₀ w : Desk) (c : Cursor) (p : Place) (u : Underway H lim t w₀ w c p) where
-    pub going : Going (by_slots H lim) lim w p
+    pub going : GoingWith (by_slots H lim) lim w p
     going = record { first = w₀; draft = u.draft; drafted = u.drafted }
 
     -- lines have numbers up to one more than the text has bytes
@@ -144,7 +144,7 @@ module _ (H : ℕ) (lim : Limits) (t : List ℕ) where
       abbrev GoesOn : Cursor → Place → Type 0
       GoesOn c' q = (Lent w w' → Underway H lim t w₀ w' c' q) × (left t c' < left t c)
 
-      goes_on : (c' : Cursor) (q : Place) (d : Draft) → Drafted (by_slots H lim) lim w₀ w' q d → Nearer c c' → read_all lim t ≡ read_from rest.turns lim t c' d → GoesOn c' q
+      goes_on : (c' : Cursor) (q : Place) (d : Draft) → DraftedWith (by_slots H lim) lim w₀ w' q d → Nearer c c' → read_all lim t ≡ read_from rest.turns lim t c' d → GoesOn c' q
       goes_on c' q d h near e = (
         λ long. record {
           draft = d;
@@ -165,11 +165,11 @@ module _ (H : ℕ) (lim : Limits) (t : List ℕ) where
       Follows c' (N.Whole q) = Drawn H lim t w₀ w' (E.Whole q)
       Follows c' (N.Refused f) = Drawn H lim t w₀ w' (E.Refused f)
 
-      follows : (n : Next) → Turned (by_slots H lim) lim w₀ w' turn n → Follows (scan t c).next n
+      follows : (n : Next) → TurnedWith (by_slots H lim) lim w₀ w' turn n → Follows (scan t c).next n
       follows (N.Goes q) l = goes_on (scan t c).next q l.draft l.drafted (nearer l.is) (read-on l.is)
       follows (N.Drops q) l = goes_on (next_line t (scan t c).next) q l.draft l.drafted (nearer l.is) (read-on l.is)
       follows (N.Whole q) l = record { draft = l.draft; is = read-on l.is; drafted = l.drafted }
       follows (N.Refused f) l = (read-on l.0, l.1)
 
-      pub turned_on : (s : Step) (n : Next) → s ≡ scan t c → TurnsBy (by_slots H lim) lim s.token w p w' n → Follows s.next n
+      pub turned_on : (s : Step) (n : Next) → s ≡ scan t c → TurnsWith (by_slots H lim) lim s.token w p w' n → Follows s.next n
       turned_on s n e k = rw e (follows n ((rw e at k).told w₀ u.draft u.drafted))

@@ -17,11 +17,11 @@ use Rattle.written.specs.Reading.{Draft, ends, stops, kept, dropped, at_line_end
 use Rattle.laws.proofs.Basics.{by_test}
 use Rattle.laws.proofs.Refusals.{line-none, line-full, line-room}
 use Rattle.reading_literal.specs.declared.Taken.{Taken}
-use Rattle.reading_literal.specs.Taking.{Index, Took}
+use Rattle.reading_literal.specs.Taking.{Index, TookWith}
 use Rattle.reading_lines.specs.declared.Place.{Place}
 use Rattle.reading_lines.specs.declared.Next.{Next}
 use Rattle.reading_lines.specs.declared.Next.TheVariants as N
-use Rattle.reading_lines.specs.Drafting.{Desk, desk, Drafted, whole, Turned, TurnsBy}
+use Rattle.reading_lines.specs.Drafting.{Desk, desk, DraftedWith, whole, TurnedWith, TurnsWith}
 use Rattle.reading_lines.specs.Turns.{place_at, given_back, after_literal, LineEnd, line_end, after_line, after_text}
 use Rattle.reading_lines.proofs.Held.{line-length, given_back_lem, line_kept}
 use Rattle.reading_lines.proofs.Literals.{literal-turns}
@@ -59,12 +59,12 @@ text-whole ns (c ∷ cs) ls e = refl
 
 module _ (X : Index) (lim : Limits) (w : Desk) (p : Place) where
   pub literal-by : (l : Lit) (n' ls' m' o' : List ℕ) (r : Taken) {q : Next}
-      → Took X lim w.names p.terms w.literals p.from p.held w.stamps w.slots l.name l.negated n' ls' m' o' r
-      → q ≡ after_literal r p l.line → TurnsBy X lim (Literal l) w p (desk n' w.starts ls' m' o') q
+      → TookWith X lim w.names p.terms w.literals p.from p.held w.stamps w.slots l.name l.negated n' ls' m' o' r
+      → q ≡ after_literal r p l.line → TurnsWith X lim (Literal l) w p (desk n' w.starts ls' m' o') q
   unfolding at_token
   literal-by l n' ls' m' o' r k e = record { told = λ w₀ d h. rw e (literal-turns X lim w₀ w p d h l n' ls' m' o' r k) }
 
-  pub true-by : (n : ℕ) → TurnsBy X lim (True n) w p w (N.Drops (given_back p))
+  pub true-by : (n : ℕ) → TurnsWith X lim (True n) w p w (N.Drops (given_back p))
   unfolding at_token
   true-by n = record { told = λ w₀ d h. record { draft = dropped d; is = refl; drafted = given_back_lem X lim w₀ w p d h } }
 
@@ -73,9 +73,9 @@ module _ (X : Index) (lim : Limits) (w : Desk) (p : Place) where
   ended ss = desk w.names ss w.literals w.stamps w.slots
 
   abbrev pub Ends : ℕ → Desk → Draft → LineEnd → Type 0
-  Ends n w₀ d e = Turned X lim w₀ (ended e.starts) (at_line_end lim d n d.line) e.next
+  Ends n w₀ d e = TurnedWith X lim w₀ (ended e.starts) (at_line_end lim d n d.line) e.next
 
-  pub line-turns : (n : ℕ) (w₀ : Desk) (d : Draft) → Drafted X lim w₀ w p d → Ends n w₀ d (after_line lim p n w.starts)
+  pub line-turns : (n : ℕ) (w₀ : Desk) (d : Draft) → DraftedWith X lim w₀ w p d → Ends n w₀ d (after_line lim p n w.starts)
   unfolding after_line
   line-turns n w₀ d h =
       let long = line-length X lim w₀ w p d h in
@@ -89,24 +89,24 @@ module _ (X : Index) (lim : Limits) (w : Desk) (p : Place) where
       let few : length d.clauses < lim.clauses = omega (arith, leb-false lim.clauses p.clauses room, h.clauses_are) in
       record { draft = kept d; is = line-room lim d n d.line more few; drafted = line_kept X lim w₀ w p d h few }))
 
-  pub line-by : (n : ℕ) (ss : List ℕ) {q : Next} → line_end q ss ≡ after_line lim p n w.starts → TurnsBy X lim (Line n) w p (ended ss) q
+  pub line-by : (n : ℕ) (ss : List ℕ) {q : Next} → line_end q ss ≡ after_line lim p n w.starts → TurnsWith X lim (Line n) w p (ended ss) q
   unfolding at_token
   line-by n ss e =
       record { told = λ w₀ d h. subst (Ends n w₀ d) (sym e) (line-turns n w₀ d h) }
 
   -- the text's end
-  pub text-turns : (w₀ : Desk) (d : Draft) → Drafted X lim w₀ w p d → Turned X lim w₀ w (ends (at_text_end d.names d.clauses)) (after_text p)
+  pub text-turns : (w₀ : Desk) (d : Draft) → DraftedWith X lim w₀ w p d → TurnedWith X lim w₀ w (ends (at_text_end d.names d.clauses)) (after_text p)
   unfolding after_text
   text-turns w₀ d h =
-      by_test (Turned X lim w₀ w (ends (at_text_end d.names d.clauses))) (eqb p.clauses 0)
+      by_test (TurnedWith X lim w₀ w (ends (at_text_end d.names d.clauses))) (eqb p.clauses 0)
       (λ none. (text-refused d.names d.clauses (omega (arith, eqb-true p.clauses 0 none, h.clauses_are)), h.beyond))
       (λ some.
       record { draft = d; is = text-whole d.names d.clauses d.line (λ e. omega (arith, eqb-false p.clauses 0 some, h.clauses_are)); drafted = h })
 
-  pub end_by : (n : ℕ) {q : Next} → q ≡ after_text p → TurnsBy X lim (End n) w p w q
+  pub end_by : (n : ℕ) {q : Next} → q ≡ after_text p → TurnsWith X lim (End n) w p w q
   unfolding at_token
   end_by n e = record { told = λ w₀ d h. rw e (text-turns w₀ d h) }
 
   -- a token that stops the reading
-  pub fault-by : (k : Token) (f : Fault) → ((d : Draft) → at_token lim d k ≡ stops f) → TurnsBy X lim k w p w (N.Refused f)
+  pub fault-by : (k : Token) (f : Fault) → ((d : Draft) → at_token lim d k ≡ stops f) → TurnsWith X lim k w p w (N.Refused f)
   fault-by k f e = record { told = λ w₀ d h. (e d, h.beyond) }

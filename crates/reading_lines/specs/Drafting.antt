@@ -5,10 +5,10 @@ use Rattle.scan.specs.declared.Token.{Token}
 use Rattle.written.specs.Lists.{total}
 use Rattle.written.specs.Limits.{Limits}
 use Rattle.written.specs.Tables.{starts_from, over}
-use Rattle.written.specs.Lending.{Held, Slice}
+use Rattle.written.specs.Lending.{Held}
 use Rattle.written.specs.Reading.{Reading, Draft, Turn, accepted, refused, goes, drops, ends, at_token, from_left}
 use Rattle.reading_literal.specs.Line.{line_in}
-use Rattle.reading_literal.specs.Taking.{Index, by_slots, Open}
+use Rattle.reading_literal.specs.Taking.{Index, by_slots, OpenWith}
 use Rattle.reading_lines.specs.declared.Place.{Place}
 use Rattle.reading_lines.specs.declared.Next.{Next}
 use Rattle.reading_lines.specs.declared.Next.TheVariants as N
@@ -27,16 +27,16 @@ abbrev pub desk : List ℕ → List ℕ → List ℕ → List ℕ → List ℕ �
 desk n s l m o = record { names = n; starts = s; literals = l; stamps = m; slots = o }
 
 abbrev pub desk_at : Held → Held → Held → Held → Held → Desk
-desk_at n s l m o = desk n.now s.now l.now m.now o.now
+desk_at n s l m o = desk n s l m o
 
-abbrev pub desk_before : Slice → Slice → Slice → Slice → Slice → Desk
-desk_before n s l m o = desk_at n.entry s.entry l.entry m.entry o.entry
+abbrev pub desk_before : Held → Held → Held → Held → Held → Desk
+desk_before n s l m o = desk_at n s l m o
 
-abbrev pub desk_after : Slice → Slice → Slice → Slice → Slice → Desk
-desk_after n s l m o = desk_at n.exit s.exit l.exit m.exit o.exit
+abbrev pub desk_after : Held → Held → Held → Held → Held → Desk
+desk_after n s l m o = desk_at n s l m o
 
 -- past the full sizes, and past the slots that names are looked up by, nothing has changed
-pub record Beyond (X : Index) (lim : Limits) (w₀ w : Desk) : Type 0 where
+pub record BeyondWith (X : Index) (lim : Limits) (w₀ w : Desk) : Type 0 where
   pub names-beyond : drop lim.terms w.names ≡ drop lim.terms w₀.names
   pub starts-beyond : drop (lim.clauses + 1) w.starts ≡ drop (lim.clauses + 1) w₀.starts
   pub literals-beyond : drop lim.literals w.literals ≡ drop lim.literals w₀.literals
@@ -44,8 +44,8 @@ pub record Beyond (X : Index) (lim : Limits) (w₀ w : Desk) : Type 0 where
   pub slots-beyond : drop X.slots w.slots ≡ drop X.slots w₀.slots
 
 -- the tables w hold the draft d at the place p; they were w₀ at first, and names and starts are written over those
-pub record Drafted (X : Index) (lim : Limits) (w₀ w : Desk) (p : Place) (d : Draft) : Type 0 where
-  pub ready : Open X lim w.names p.terms w.literals p.from p.held w.stamps w.slots
+pub record DraftedWith (X : Index) (lim : Limits) (w₀ w : Desk) (p : Place) (d : Draft) : Type 0 where
+  pub ready : OpenWith X lim w.names p.terms w.literals p.from p.held w.stamps w.slots
   pub starts-room : lim.clauses < length w.starts
   pub few-clauses : length d.clauses ≤ lim.clauses
   pub terms_are : p.terms ≡ length d.names
@@ -55,34 +55,53 @@ pub record Drafted (X : Index) (lim : Limits) (w₀ w : Desk) (p : Place) (d : D
   pub starts_are : w.starts ≡ over (starts_from 0 d.clauses) w₀.starts
   pub kept_are : take p.from w.literals ≡ flatten d.clauses
   pub line-is : line_in w.literals p.from p.held ≡ d.line
-  pub beyond : Beyond X lim w₀ w
+  pub beyond : BeyondWith X lim w₀ w
 
 -- the tables hold some draft
-pub record Going (X : Index) (lim : Limits) (w : Desk) (p : Place) : Type 0 where
+pub record GoingWith (X : Index) (lim : Limits) (w : Desk) (p : Place) : Type 0 where
   pub first : Desk
   pub draft : Draft
-  pub drafted : Drafted X lim first w p draft
+  pub drafted : DraftedWith X lim first w p draft
 
 -- u is `from d` for a draft d that the tables hold
-pub record Leads {A : Type 0} (u : A) (from : Draft → A) (X : Index) (lim : Limits) (w₀ w : Desk) (p : Place) : Type 0 where
+pub record LeadsWith {A : Type 0} (u : A) (from : Draft → A) (X : Index) (lim : Limits) (w₀ w : Desk) (p : Place) : Type 0 where
   pub draft : Draft
   pub is : u ≡ from draft
-  pub drafted : Drafted X lim w₀ w p draft
+  pub drafted : DraftedWith X lim w₀ w p draft
 
 -- the reading that a draft comes to at the text's end, where a clause is kept
 abbrev pub whole : Draft → Reading
 whole d = accepted (record { names = d.names; clauses = d.clauses })
 
 -- where the code goes is the written turn u
-abbrev pub Turned : Index → Limits → Desk → Desk → Turn → Next → Type 0
-Turned X lim w₀ w u (N.Goes p) = Leads u goes X lim w₀ w p
-Turned X lim w₀ w u (N.Drops p) = Leads u drops X lim w₀ w p
-Turned X lim w₀ w u (N.Whole p) = Leads u (λ d. ends (whole d)) X lim w₀ w p
-Turned X lim w₀ w u (N.Refused f) = (u ≡ ends (refused f)) × Beyond X lim w₀ w
+abbrev pub TurnedWith : Index → Limits → Desk → Desk → Turn → Next → Type 0
+TurnedWith X lim w₀ w u (N.Goes p) = LeadsWith u goes X lim w₀ w p
+TurnedWith X lim w₀ w u (N.Drops p) = LeadsWith u drops X lim w₀ w p
+TurnedWith X lim w₀ w u (N.Whole p) = LeadsWith u (λ d. ends (whole d)) X lim w₀ w p
+TurnedWith X lim w₀ w u (N.Refused f) = (u ≡ ends (refused f)) × BeyondWith X lim w₀ w
 
 -- whatever draft the tables held, the token k has done to it what is written
-pub record TurnsBy (X : Index) (lim : Limits) (k : Token) (w : Desk) (p : Place) (w' : Desk) (r : Next) : Type 0 where
-  pub told : (w₀ : Desk) (d : Draft) → Drafted X lim w₀ w p d → Turned X lim w₀ w' (at_token lim d k) r
+pub record TurnsWith (X : Index) (lim : Limits) (k : Token) (w : Desk) (p : Place) (w' : Desk) (r : Next) : Type 0 where
+  pub told : (w₀ : Desk) (d : Draft) → DraftedWith X lim w₀ w p d → TurnedWith X lim w₀ w' (at_token lim d k) r
+
+-- the same with names looked up by their homes, of which there are H
+abbrev pub Beyond : ℕ → Limits → Desk → Desk → Type 0
+Beyond H lim w₀ w = BeyondWith (by_slots H lim) lim w₀ w
+
+abbrev pub Drafted : ℕ → Limits → Desk → Desk → Place → Draft → Type 0
+Drafted H lim w₀ w p d = DraftedWith (by_slots H lim) lim w₀ w p d
+
+abbrev pub Going : ℕ → Limits → Desk → Place → Type 0
+Going H lim w p = GoingWith (by_slots H lim) lim w p
+
+abbrev pub Leads : {A : Type 0} → A → (Draft → A) → ℕ → Limits → Desk → Desk → Place → Type 0
+Leads u from H lim w₀ w p = LeadsWith u from (by_slots H lim) lim w₀ w p
+
+abbrev pub Turned : ℕ → Limits → Desk → Desk → Turn → Next → Type 0
+Turned H lim w₀ w u r = TurnedWith (by_slots H lim) lim w₀ w u r
+
+abbrev pub TurnsBy : ℕ → Limits → Token → Desk → Place → Desk → Next → Type 0
+TurnsBy H lim k w p w' r = TurnsWith (by_slots H lim) lim k w p w' r
 
 -- what a draft of the text t asks of its tables at first; H homes of names have H + terms + 1 slots
 pub record Blank (H : ℕ) (lim : Limits) (t : List ℕ) (w : Desk) : Type 0 where
@@ -102,5 +121,5 @@ read_all lim t = from_left lim t
 
 -- what the code ends with is the written reading of the text t
 abbrev pub Drawn : ℕ → Limits → List ℕ → Desk → Desk → Ended → Type 0
-Drawn H lim t w₀ w (E.Whole p) = Leads (read_all lim t) whole (by_slots H lim) lim w₀ w p
-Drawn H lim t w₀ w (E.Refused f) = (read_all lim t ≡ refused f) × Beyond (by_slots H lim) lim w₀ w
+Drawn H lim t w₀ w (E.Whole p) = Leads (read_all lim t) whole H lim w₀ w p
+Drawn H lim t w₀ w (E.Refused f) = (read_all lim t ≡ refused f) × Beyond H lim w₀ w

@@ -7,7 +7,6 @@ ghost use Rattle.scan.specs.Scan.{line_of};
 ghost use Rattle.written.specs.Limits.{narrow};
 ghost use Rattle.written.specs.Reasons.{fault_at};
 ghost use Rattle.names.specs.Finding.{homes};
-ghost use Rattle.reading_literal.specs.Taking.{by_slots};
 ghost use Rattle.reading_lines.specs.declared.Next.TheVariants.{Refused};
 ghost use Rattle.reading_lines.specs.Drafting.{desk_at, desk_before, desk_after, Going, TurnsBy, Blank, Drawn};
 ghost use Rattle.reading_lines.specs.Turns.{given_back, after_literal, line_end, after_line, after_text};
@@ -53,7 +52,7 @@ pub fn refused(reason: Reason, line: usize) -> Next
 }
 
 // A dropped line gives back its literals; its terms stay known.
-fn given_back_lem(place: Place) -> Place
+fn given_back(place: Place) -> Place
     ensures { result ≡ given_back place }
 {
     Place {
@@ -83,7 +82,7 @@ pub fn after_literal(t: Taken, p: Place, line: usize) -> Next
             held: p.held + 1,
         }),
         Taken::Skipped => Next::Goes(p),
-        Taken::Dropped => Next::Drops(given_back_lem(p)),
+        Taken::Dropped => Next::Drops(given_back(p)),
         Taken::NoTerm => refused(Reason::TooManyTerms, line),
         Taken::NoRoom => refused(Reason::TooManyLiterals, line),
     }
@@ -132,9 +131,9 @@ fn at_token(
     p: Place,
     k: Token,
 ) -> Next
-    requires { Going (by_slots homes narrow) narrow (desk_at names starts literals stamps slots) p × (line_of k < 2 ^ 32) }
-    ensures { TurnsBy (by_slots homes narrow) narrow k (desk_before names starts literals stamps slots) p
-        (desk_after names starts literals stamps slots) result }
+    requires { Going homes narrow (desk_at names.old starts.old literals.old stamps.old slots.old) p × (line_of k < 2 ^ 32) }
+    ensures { TurnsBy homes narrow k (desk_before names.old starts.old literals.old stamps.old slots.old) p
+        (desk_after names.new starts.new literals.new stamps.new slots.new) result }
 {
     match k {
         Token::Literal(l) => {
@@ -143,7 +142,7 @@ fn at_token(
             );
             after_literal(t, p, l.line)
         }
-        Token::True(_) => Next::Drops(given_back_lem(p)),
+        Token::True(_) => Next::Drops(given_back(p)),
         Token::Line(n) => at_line_end(starts, p, n),
         Token::End(_) => at_text_end(p),
         Token::Cut(_) => refused(Reason::TextCut, 0),
@@ -161,9 +160,9 @@ pub fn draft(
     stamps: &mut [u16],
     slots: &mut [u16],
 ) -> Ended
-    requires { Blank homes narrow text.now (desk_at names starts literals stamps slots) }
-    ensures { Drawn homes narrow text.now (desk_before names starts literals stamps slots)
-        (desk_after names starts literals stamps slots) result }
+    requires { Blank homes narrow text.now (desk_at names.old starts.old literals.old stamps.old slots.old) }
+    ensures { Drawn homes narrow text.now (desk_before names.old starts.old literals.old stamps.old slots.old)
+        (desk_after names.new starts.new literals.new stamps.new slots.new) result }
 {
     let mut c = Cursor { at: 0, line: 1 };
     let mut p = Place {

@@ -18,7 +18,7 @@ use Rattle.laws.proofs.Basics.{by_test}
 use Rattle.laws.proofs.Membership.{place_of-lt, place_of-none}
 use Rattle.machine.proofs.Slots.{slot-filled}
 use Rattle.reading_literal.specs.Line.{line_in, stands_in}
-use Rattle.reading_literal.specs.Taking.{fate, new_terms, new_literals, put_if, Placed, placing, fate_of, placed_by, placed, CanPlace, Index, by_slots, Open, Took}
+use Rattle.reading_literal.specs.Taking.{fate, new_terms, new_literals, put_if, Placed, placing, fate_of, placed_by, placed, CanPlace, Index, by_slots, OpenWith, TookWith}
 use Rattle.reading_literal.specs.declared.Stands.{Stands}
 use Rattle.reading_literal.specs.declared.Stands.TheVariants.{Not, Same, Opposite}
 use Rattle.reading_literal.specs.declared.Taken.{Taken}
@@ -86,7 +86,7 @@ module _ (lim : Limits) (literals stamps : List ℕ) (from held term : ℕ) (neg
 -- ---- what a literal leaves
 
 module _ (X : Index) (lim : Limits) (names : List ℕ) (terms : ℕ) (literals : List ℕ) (from held : ℕ) (stamps slots : List ℕ)
-    (o : Open X lim names terms literals from held stamps slots) (name : ℕ) (negated : Bool) where
+    (o : OpenWith X lim names terms literals from held stamps slots) (name : ℕ) (negated : Bool) where
   abbrev known : List ℕ
   known = take terms names
 
@@ -94,7 +94,7 @@ module _ (X : Index) (lim : Limits) (names : List ℕ) (terms : ℕ) (literals :
   line = line_in literals from held
 
   abbrev Left : List ℕ → List ℕ → List ℕ → List ℕ → Taken → Type 0
-  Left = Took X lim names terms literals from held stamps slots name negated
+  Left = TookWith X lim names terms literals from held stamps slots name negated
 
   count : length known ≡ terms
   count = length-take-le terms names (omega (arith, o.few-terms, o.names-room))
@@ -114,7 +114,7 @@ module _ (X : Index) (lim : Limits) (names : List ℕ) (terms : ℕ) (literals :
   -- the literal of a term that is new to the line is put in
   put_in : (k : ℕ) → Not ≡ stands_in k negated line → held < lim.literals → (names' slots' : List ℕ) (terms' : ℕ) → k < terms' → terms ≤ terms'
       → terms' ≤ lim.terms → lim.terms ≤ length names' → X.holds (take terms' names') slots'
-      → Open X lim names' terms' (set literals held (literal_of k negated)) from (held + 1) (set stamps k held) slots'
+      → OpenWith X lim names' terms' (set literals held (literal_of k negated)) from (held + 1) (set stamps k held) slots'
   put_in k e h names' slots' terms' low more few room ix =
       record {
         names-room = room;
@@ -182,9 +182,9 @@ module _ (X : Index) (lim : Limits) (names : List ℕ) (terms : ℕ) (literals :
 -- ---- the name is new, and its slot would be s
 
 module _ (H : ℕ) (lim : Limits) (names : List ℕ) (terms : ℕ) (literals : List ℕ) (from held : ℕ) (stamps slots : List ℕ)
-    (o : Open (by_slots H lim) lim names terms literals from held stamps slots) (name : ℕ) (negated : Bool) where
+    (o : OpenWith (by_slots H lim) lim names terms literals from held stamps slots) (name : ℕ) (negated : Bool) where
   abbrev LeftNew : List ℕ → List ℕ → List ℕ → List ℕ → Taken → Type 0
-  LeftNew = Took (by_slots H lim) lim names terms literals from held stamps slots name negated
+  LeftNew = TookWith (by_slots H lim) lim names terms literals from held stamps slots name negated
 
   -- the names known so far and the open line, as they are called above
   abbrev names-known : List ℕ

@@ -85,7 +85,7 @@ abbrev pub by_number : Index
 by_number = record { slots = 0; holds = λ known slots. Unit {0} }
 
 -- between two literals: the first `terms` names known, the literals below `held` held and those from `from` on the open line's
-pub record Open (X : Index) (lim : Limits) (names : List ℕ) (terms : ℕ) (literals : List ℕ) (from held : ℕ) (stamps slots : List ℕ) : Type 0 where
+pub record OpenWith (X : Index) (lim : Limits) (names : List ℕ) (terms : ℕ) (literals : List ℕ) (from held : ℕ) (stamps slots : List ℕ) : Type 0 where
   pub names-room : lim.terms ≤ length names
   pub few-terms : terms ≤ lim.terms
   pub indexed : X.holds (take terms names) slots
@@ -95,11 +95,19 @@ pub record Open (X : Index) (lim : Limits) (names : List ℕ) (terms : ℕ) (lit
   pub stamped : Stamped literals from held stamps terms
 
 -- after a literal: what it came to, the names and the literals by plain lists, and that the tables serve again
-pub record Took (X : Index) (lim : Limits) (names : List ℕ) (terms : ℕ) (literals : List ℕ) (from held : ℕ) (stamps slots : List ℕ) (name : ℕ) (negated : Bool)
+pub record TookWith (X : Index) (lim : Limits) (names : List ℕ) (terms : ℕ) (literals : List ℕ) (from held : ℕ) (stamps slots : List ℕ) (name : ℕ) (negated : Bool)
     (names' literals' stamps' slots' : List ℕ) (r : Taken) : Type 0 where
   pub told : r ≡ fate lim (take terms names) (line_in literals from held) held name negated
   pub names-left : names' ≡ put_if (new_terms r) names terms name
   pub literals-left : literals' ≡ put_if (new_literals r) literals held (literal_of (place_of name (take terms names)) negated)
-  pub again : Open X lim names' (terms + new_terms r) literals' from (held + new_literals r) stamps' slots'
+  pub again : OpenWith X lim names' (terms + new_terms r) literals' from (held + new_literals r) stamps' slots'
   pub stamps-beyond : drop lim.terms stamps' ≡ drop lim.terms stamps
   pub slots-beyond : drop X.slots slots' ≡ drop X.slots slots
+
+-- with names looked up by their homes, of which there are H
+abbrev pub Open : ℕ → Limits → List ℕ → ℕ → List ℕ → ℕ → ℕ → List ℕ → List ℕ → Type 0
+Open H lim names terms literals from held stamps slots = OpenWith (by_slots H lim) lim names terms literals from held stamps slots
+
+abbrev pub Took : ℕ → Limits → List ℕ → ℕ → List ℕ → ℕ → ℕ → List ℕ → List ℕ → ℕ → Bool → List ℕ → List ℕ → List ℕ → List ℕ → Taken → Type 0
+Took H lim names terms literals from held stamps slots name negated names' literals' stamps' slots' r =
+    TookWith (by_slots H lim) lim names terms literals from held stamps slots name negated names' literals' stamps' slots' r

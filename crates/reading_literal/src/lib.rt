@@ -8,7 +8,7 @@ ghost use Rattle.written.specs.Limits.{narrow};
 ghost use Rattle.written.specs.Clauses.{literal_of};
 ghost use Rattle.names.specs.Finding.{homes};
 ghost use Rattle.reading_literal.specs.Line.{line_in, stands_in, Stamped};
-ghost use Rattle.reading_literal.specs.Taking.{placing, placed, CanPlace, by_slots, Open, Took};
+ghost use Rattle.reading_literal.specs.Taking.{placing, placed, CanPlace, Open, Took};
 
 use names::Found;
 
@@ -119,8 +119,8 @@ pub fn take(
     name: u64,
     negated: bool,
 ) -> Taken
-    requires { Open (by_slots homes narrow) narrow names.old terms literals.old from held stamps.old slots.old }
-    ensures { Took (by_slots homes narrow) narrow names.old terms literals.old from held stamps.old
+    requires { Open homes narrow names.old terms literals.old from held stamps.old slots.old }
+    ensures { Took homes narrow names.old terms literals.old from held stamps.old
         slots.old name negated names.new literals.new stamps.new slots.new result }
 {
     let found = names::find(names, slots, terms, name);

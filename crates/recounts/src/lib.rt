@@ -84,10 +84,10 @@ fn count_one(
     places: &mut [u16],
     number: usize,
 ) -> usize
-    requires { CanCount 65536 (view values.now starts.now literals.now) c (tallies_at trues breaks list places number) }
-    ensures { tallies_after trues breaks list places result
+    requires { CanCount 65536 (view values.now starts.now literals.now) c (tallies_at trues.old breaks.old list.old places.old number) }
+    ensures { tallies_after trues.new breaks.new list.new places.new result
         ≡ count_one (view values.now starts.now literals.now) c
-        (tallies_before trues breaks list places number) }
+        (tallies_before trues.old breaks.old list.old places.old number) }
 {
     let clause = tables::part(starts, literals, c);
     let k = tables::true_count(values, clause);
@@ -115,10 +115,10 @@ fn count_all(
     list: &mut [u16],
     places: &mut [u16],
 ) -> usize
-    requires { CanCountAll 65536 clauses (view values.now starts.now literals.now) (tallies_at trues breaks list places 0) }
-    ensures { tallies_after trues breaks list places result
+    requires { CanCountAll 65536 clauses (view values.now starts.now literals.now) (tallies_at trues.old breaks.old list.old places.old 0) }
+    ensures { tallies_after trues.new breaks.new list.new places.new result
         ≡ counted clauses (view values.now starts.now literals.now)
-        (tallies_before trues breaks list places 0) }
+        (tallies_before trues.old breaks.old list.old places.old 0) }
 {
     let mut number = 0;
     let mut c = 0;
@@ -143,10 +143,10 @@ pub fn count_afresh(
     list: &mut [u16],
     places: &mut [u16],
 ) -> usize
-    requires { CanRecount 65536 clauses terms (view values.now starts.now literals.now) (tallies_at trues breaks list places 0) }
-    ensures { tallies_after trues breaks list places result
+    requires { CanRecount 65536 clauses terms (view values.now starts.now literals.now) (tallies_at trues.old breaks.old list.old places.old 0) }
+    ensures { tallies_after trues.new breaks.new list.new places.new result
         ≡ counted clauses (view values.now starts.now literals.now)
-        (blank clauses terms (tallies_before trues breaks list places 0)) }
+        (blank clauses terms (tallies_before trues.old breaks.old list.old places.old 0)) }
 {
     tables::clear(breaks, terms);
     tables::clear(list, clauses);

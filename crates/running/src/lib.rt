@@ -29,9 +29,12 @@ fn begin(
     marks: &mut [u8],
     out: &mut [u8],
 ) -> usize
-    requires { CanRun narrow (lent_at names values starts literals occurrence_starts occurrences trues breaks uncovered places) marks.old out.old }
-    ensures { ended result (lent_after names values starts literals occurrence_starts occurrences trues breaks uncovered places) marks.new out.new
-        ≡ ran_as form narrow (lent_before names values starts literals occurrence_starts occurrences trues breaks uncovered places) marks.old
+    requires { CanRun narrow (lent_at names.old values.old starts.old literals.old occurrence_starts.old occurrences.old trues.old breaks.old
+        uncovered.old places.old) marks.old out.old }
+    ensures { ended result (lent_after names.new values.new starts.new literals.new occurrence_starts.new occurrences.new trues.new breaks.new
+        uncovered.new places.new) marks.new out.new
+        ≡ ran_as form narrow (lent_before names.old values.old starts.old literals.old occurrence_starts.old occurrences.old trues.old breaks.old
+        uncovered.old places.old) marks.old
         out.old
         (course_as form narrow input.now) }
 {
@@ -96,9 +99,11 @@ pub fn run_sheet(
     marks: &mut [u8],
     out: &mut [u8],
 ) -> RunAnswer
-    ensures { answered result (lent_after names values starts literals occurrence_starts occurrences trues breaks uncovered places) marks.new
+    ensures { answered result (lent_after names.new values.new starts.new literals.new occurrence_starts.new occurrences.new trues.new breaks.new
+        uncovered.new places.new) marks.new
         out.new
-        ≡ run_as form narrow input.now (lent_before names values starts literals occurrence_starts occurrences trues breaks uncovered places)
+        ≡ run_as form narrow input.now (lent_before names.old values.old starts.old literals.old occurrence_starts.old occurrences.old trues.old
+        breaks.old uncovered.old places.old)
         marks.old out.old }
 {
     if !tables::all_full(

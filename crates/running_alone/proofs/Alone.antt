@@ -20,7 +20,7 @@ use Rattle.laws.proofs.Forms.{form-ran}
 use Rattle.pages.specs.Pages.{Page, page, put}
 use Rattle.running_text.specs.Running.{answered}
 use Rattle.running_text.proofs.Ends.{front}
-use Rattle.running_alone.specs.Seeing.{CanSee, end_told, seen_whole, shown_of, Within}
+use Rattle.running_alone.specs.Seeing.{CanSee, end_told, seen_whole, shown_as, Within}
 
 -- on full tables
 pub alone-ends : (form : Form) (lim : Limits) (input : List ℕ) (b : List ℕ) → report_size lim ≤ length b → (t : Tables) (ms : List ℕ) → are_full lim t ≡ true → marks_full lim ms ≡ true
@@ -49,23 +49,23 @@ cut-prints form lim k input more =
 
 -- so of every input whose first bytes were read, as far as the buffer goes, and that was seen whole, what it prints is shown
 pub shows-whole : (form : Form) (lim : Limits) (n : ℕ) (last : ℤ) (buffer b : List ℕ) → CanSee lim n buffer b → seen_whole lim n last ≡ true
-    → (input : List ℕ) → take (length buffer) input ≡ take n buffer → shown_of form lim n last buffer ≡ printed_as form lim input
+    → (input : List ℕ) → take (length buffer) input ≡ take n buffer → shown_as form lim n last buffer ≡ printed_as form lim input
 shows-whole form lim n last buffer b can whole input first =
     rw whole (ap (printed_as form lim) (sym first) ∙ cut-prints form lim (length buffer) input can.more)
 
 -- of one that was not, nothing
-pub shows_nothing : (form : Form) (lim : Limits) (n : ℕ) (last : ℤ) (buffer : List ℕ) → seen_whole lim n last ≡ false → shown_of form lim n last buffer ≡ []
+pub shows_nothing : (form : Form) (lim : Limits) (n : ℕ) (last : ℤ) (buffer : List ℕ) → seen_whole lim n last ≡ false → shown_as form lim n last buffer ≡ []
 shows_nothing form lim n last buffer part = rw part refl
 
 -- a call of `read` that failed, before one byte more than an input may have was there
-pub failed-shows-nothing : (form : Form) (lim : Limits) (n k : ℕ) (buffer : List ℕ) → n ≤ lim.text → shown_of form lim n (negsuc k) buffer ≡ []
+pub failed-shows-nothing : (form : Form) (lim : Limits) (n k : ℕ) (buffer : List ℕ) → n ≤ lim.text → shown_as form lim n (negsuc k) buffer ≡ []
 failed-shows-nothing form lim n k buffer few = rw (le-ltb lim.text n few) refl
 
 -- ---- the three ways of a program that has read
 
 module _ (form : Form) (lim : Limits) (n : ℕ) (last : ℤ) (buffer b : List ℕ) where
   abbrev Shown : ℕ → List ℕ → Type 0
-  Shown r out = (page r out ≡ put (shown_of form lim n last buffer) (page 0 b)) × Within r out
+  Shown r out = (page r out ≡ put (shown_as form lim n last buffer) (page 0 b)) × Within r out
 
   module _ {r : ℕ} {out : List ℕ} (e : page r out ≡ put (printed_as form lim (take n buffer)) (page 0 b)) (within : Within r out) where
     pub too_long : lim.text < n → Shown r out

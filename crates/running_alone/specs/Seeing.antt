@@ -2,7 +2,7 @@
 use Rattle.std.specs.Prelude.{ℕ, ◌≤◌, ◌<◌, ◌≡◌, Bool, false, cond, ◌||◌, List, [], ℤ, pos, negsuc, length, take, eqb, ltb}
 use Rattle.written.specs.declared.Form.{Form}
 use Rattle.written.specs.Limits.{Limits}
-use Rattle.written.specs.Program.{printed_as, report_size}
+use Rattle.written.specs.Program.{printed, printed_as, report_size}
 
 -- n bytes of a buffer in which one more than an input may have has room, and room for any report
 pub record CanSee (lim : Limits) (n : ℕ) (buffer out : List ℕ) : Type 0 where
@@ -25,5 +25,9 @@ abbrev pub seen_whole : Limits → ℕ → ℤ → Bool
 seen_whole lim n last = ltb lim.text n || end_told last
 
 -- what is shown for n bytes of a buffer: nothing of an input that was not seen whole
-abbrev pub shown_of : Form → Limits → ℕ → ℤ → List ℕ → List ℕ
-shown_of form lim n last buffer = cond (seen_whole lim n last) (printed_as form lim (take n buffer)) []
+abbrev pub shown_as : Form → Limits → ℕ → ℤ → List ℕ → List ℕ
+shown_as form lim n last buffer = cond (seen_whole lim n last) (printed_as form lim (take n buffer)) []
+
+-- of our own text
+abbrev pub shown_of : Limits → ℕ → ℤ → List ℕ → List ℕ
+shown_of lim n last buffer = cond (seen_whole lim n last) (printed lim (take n buffer)) []

@@ -56,7 +56,7 @@ fn is_end(last: isize) -> bool
 // Nothing is shown of an input that was not read to its end.
 pub fn run_read(form: Form, buffer: &[u8], read: usize, last: isize, out: &mut [u8]) -> usize
     requires { CanSee narrow read buffer.now out.old }
-    ensures { (page result out.new ≡ put (shown_of form narrow read last buffer.now) (page 0 out.old))
+    ensures { (page result out.new ≡ put (shown_as form narrow read last buffer.now) (page 0 out.old))
         × Within result out.new }
 {
     if 65536 < read {

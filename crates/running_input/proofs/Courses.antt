@@ -16,7 +16,7 @@ use Rattle.written.specs.Orders.{in_range}
 use Rattle.written.specs.Numbered.{read_as}
 use Rattle.written.specs.Reasons.{fault}
 use Rattle.written.specs.Sheet.{sheet_of}
-use Rattle.written.specs.Program.{unbegun, unread, after_reading, after_sheet, course_as}
+use Rattle.written.specs.Program.{unbegun, unread, after_reading, after_sheet_as, course_as}
 use Rattle.laws.specs.Sheets.{last_line}
 use Rattle.laws.proofs.Basics.{by_cases}
 use Rattle.laws.proofs.Sheets.{Judged, sheet-judged}
@@ -46,7 +46,7 @@ module _ (form : Form) (lim : Limits) (input : List ℕ) where
       (course_as form lim input ≡ after_reading s.order (read_as form lim (drop s.at input))) × (in_range s.order ≡ true) × (s.at ≤ length input)
 
   sheet-says : ltb lim.text (length input) ≡ false → (a : Ordered) → sheet_of input ≡ a → Judged (length input) a → Says (by_sheet a)
-  unfolding course_as after_sheet by_sheet
+  unfolding course_as after_sheet_as by_sheet
   sheet-says short (O.Refused e) told known = (rw (short, told) refl, known.1)
   sheet-says short (O.Accepted s) told known = (rw (short, told) refl, known.0, known.1)
 

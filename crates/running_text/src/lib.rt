@@ -32,11 +32,15 @@ fn walk_on(
     marks: &[u8],
     out: &mut [u8],
 ) -> usize
-    requires { CanWalk narrow order n (lent_at names values starts literals occurrence_starts occurrences trues breaks uncovered places) marks.now out.old }
-    ensures { ended result (lent_after names values starts literals occurrence_starts occurrences trues breaks uncovered places) marks.now out.new
-        ≡ ran_as form narrow (lent_before names values starts literals occurrence_starts occurrences trues breaks uncovered places) marks.now
+    requires { CanWalk narrow order n (lent_at names.now values.old starts.now literals.now occurrence_starts.now occurrences.now trues.old
+        breaks.old uncovered.old places.old) marks.now out.old }
+    ensures { ended result (lent_after names.now values.new starts.now literals.now occurrence_starts.now occurrences.now trues.new breaks.new
+        uncovered.new places.new) marks.now out.new
+        ≡ ran_as form narrow (lent_before names.now values.old starts.now literals.now occurrence_starts.now occurrences.now trues.old breaks.old
+        uncovered.old places.old) marks.now
         out.old
-        (walked (walk_over order [] (file_in n (lent_before names values starts literals occurrence_starts occurrences trues breaks uncovered places)))) }
+        (walked (walk_over order [] (file_in n (lent_before names.now values.old starts.now literals.now occurrence_starts.now occurrences.now
+        trues.old breaks.old uncovered.old places.old)))) }
 {
     let answer = walking::walk_tested(
         order,
@@ -74,9 +78,12 @@ pub fn read_on(
     marks: &[u8],
     out: &mut [u8],
 ) -> usize
-    requires { CanRead narrow order (lent_at names values starts literals occurrence_starts occurrences trues breaks uncovered places) marks.now out.old }
-    ensures { ended result (lent_after names values starts literals occurrence_starts occurrences trues breaks uncovered places) marks.now out.new
-        ≡ ran_as form narrow (lent_before names values starts literals occurrence_starts occurrences trues breaks uncovered places) marks.now
+    requires { CanRead narrow order (lent_at names.old values.old starts.old literals.old occurrence_starts.old occurrences.old trues.old breaks.old
+        uncovered.old places.old) marks.now out.old }
+    ensures { ended result (lent_after names.new values.new starts.new literals.new occurrence_starts.new occurrences.new trues.new breaks.new
+        uncovered.new places.new) marks.now out.new
+        ≡ ran_as form narrow (lent_before names.old values.old starts.old literals.old occurrence_starts.old occurrences.old trues.old breaks.old
+        uncovered.old places.old) marks.now
         out.old
         (after_reading order (read_as form narrow text.now)) }
 {

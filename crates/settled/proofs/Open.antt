@@ -14,7 +14,7 @@ use Rattle.names.specs.declared.Found.{Found}
 use Rattle.names.specs.declared.Found.TheVariants.{At, New}
 use Rattle.names.specs.Finding.{homes, Finds}
 use Rattle.reading_literal.specs.declared.Taken.{Taken}
-use Rattle.reading_literal.specs.Taking.{new_terms, new_literals, put_if, Index, Took}
+use Rattle.reading_literal.specs.Taking.{new_terms, new_literals, put_if, Index, TookWith}
 use Rattle.settled.specs.Outcomes.{Inner, InnerSeen}
 use Rattle.settled.proofs.Facts.{meet, same, all_three}
 use Rattle.tables.specs.contracts.part as part
@@ -35,8 +35,8 @@ one_found H known slots name (New s) (New u) p q = ap New (one-slot p.1 q.1)
 -- a literal that is taken has one fate, and leaves the names and the literals that go with it
 one-taken : {X : Index} {lim : Limits} {names : List ℕ} {terms : ℕ} {literals : List ℕ} {from held : ℕ} {stamps slots : List ℕ} {name : ℕ} {negated : Bool}
     {n₁ l₁ s₁ h₁ n₂ l₂ s₂ h₂ : List ℕ} {r₁ r₂ : Taken}
-    → Took X lim names terms literals from held stamps slots name negated n₁ l₁ s₁ h₁ r₁
-    → Took X lim names terms literals from held stamps slots name negated n₂ l₂ s₂ h₂ r₂ → ◌≡◌ {A = Taken × List ℕ × List ℕ} (r₁, n₁, l₁) (r₂, n₂, l₂)
+    → TookWith X lim names terms literals from held stamps slots name negated n₁ l₁ s₁ h₁ r₁
+    → TookWith X lim names terms literals from held stamps slots name negated n₂ l₂ s₂ h₂ r₂ → ◌≡◌ {A = Taken × List ℕ × List ℕ} (r₁, n₁, l₁) (r₂, n₂, l₂)
 one-taken {names = names} {terms = terms} {literals = literals} {held = held} {name = name} {negated = negated} p q i =
     let e = meet p.told q.told in (
       e i,

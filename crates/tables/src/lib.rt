@@ -31,7 +31,8 @@ pub fn are_full(
     uncovered: &[u16],
     places: &[u16],
 ) -> bool
-    ensures { result ≡ are_full narrow (lent_before names values starts literals occurrence_starts occurrences trues breaks uncovered places) }
+    ensures { result ≡ are_full narrow (lent_before names.now values.now starts.now literals.now occurrence_starts.now occurrences.now trues.now
+        breaks.now uncovered.now places.now) }
 {
     if names.len() < 2048 {
         return false;
@@ -77,7 +78,8 @@ pub fn all_full(
     places: &[u16],
     marks: &[u8],
 ) -> bool
-    ensures { result ≡ full_marked narrow (lent_before names values starts literals occurrence_starts occurrences trues breaks uncovered places)
+    ensures { result ≡ full_marked narrow (lent_before names.now values.now starts.now literals.now occurrence_starts.now occurrences.now trues.now
+        breaks.now uncovered.now places.now)
         marks.now }
 {
     if are_full(

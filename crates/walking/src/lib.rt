@@ -52,11 +52,11 @@ fn all_walks(
     from: At,
 ) -> Ended
     requires { CanWalks 65536 (2 ^ 32) n.terms n.clauses order.walks order marks.now
-        (fixed_at starts literals occurrence_starts occurrences)
-        (stand_at values trues breaks list places from) }
-    ensures { end result.found result.walks (stand_after values trues breaks list places result.at)
-        ≡ walks_in order marks.now n.terms n.clauses (fixed_before starts literals occurrence_starts occurrences) order.walks 0
-        (stand_before values trues breaks list places from) }
+        (fixed_at starts.now literals.now occurrence_starts.now occurrences.now)
+        (stand_at values.old trues.old breaks.old list.old places.old from) }
+    ensures { end result.found result.walks (stand_after values.new trues.new breaks.new list.new places.new result.at)
+        ≡ walks_in order marks.now n.terms n.clauses (fixed_before starts.now literals.now occurrence_starts.now occurrences.now) order.walks 0
+        (stand_before values.old trues.old breaks.old list.old places.old from) }
 {
     let mut at = from;
     let mut begun: u32 = 0;
@@ -103,9 +103,12 @@ pub fn walk_tested(
     places: &mut [u16],
     marks: &[u8],
 ) -> Walked
-    requires { Allowed narrow order n (lent_at names values starts literals occurrence_starts occurrences trues breaks uncovered places) marks.now }
-    ensures { leaves result (lent_after names values starts literals occurrence_starts occurrences trues breaks uncovered places) marks.now
-        ≡ walk_made narrow order n (lent_before names values starts literals occurrence_starts occurrences trues breaks uncovered places)
+    requires { Allowed narrow order n (lent_at names.now values.old starts.now literals.now occurrence_starts.now occurrences.now trues.old
+        breaks.old uncovered.old places.old) marks.now }
+    ensures { leaves result (lent_after names.now values.new starts.now literals.now occurrence_starts.now occurrences.now trues.new breaks.new
+        uncovered.new places.new) marks.now
+        ≡ walk_made narrow order n (lent_before names.now values.old starts.now literals.now occurrence_starts.now occurrences.now trues.old
+        breaks.old uncovered.old places.old)
         marks.now }
 {
     let e = all_walks(

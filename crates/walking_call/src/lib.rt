@@ -49,7 +49,8 @@ fn verdict(
     places: &[u16],
     marks: &[u8],
 ) -> Tested
-    ensures { result ≡ tests_of narrow order n (lent_before names values starts literals occurrence_starts occurrences trues breaks uncovered places)
+    ensures { result ≡ tests_of narrow order n (lent_before names.now values.now starts.now literals.now occurrence_starts.now occurrences.now
+        trues.now breaks.now uncovered.now places.now)
         marks.now }
 {
     if !tables::all_full(
@@ -105,8 +106,10 @@ pub fn walk(
     places: &mut [u16],
     marks: &[u8],
 ) -> Walked
-    ensures { leaves result (lent_after names values starts literals occurrence_starts occurrences trues breaks uncovered places) marks.now
-        ≡ walk_of narrow order n (lent_before names values starts literals occurrence_starts occurrences trues breaks uncovered places)
+    ensures { leaves result (lent_after names.now values.new starts.now literals.now occurrence_starts.now occurrences.now trues.new breaks.new
+        uncovered.new places.new) marks.now
+        ≡ walk_of narrow order n (lent_before names.now values.old starts.now literals.now occurrence_starts.now occurrences.now trues.old breaks.old
+        uncovered.old places.old)
         marks.now }
 {
     match verdict(

@@ -1,6 +1,6 @@
 -- Literals looked at one after another, from top down: the least, how many are at it, and the first of them; and that some are at it. Assumes nothing.
 use Prim.Native.Nat.{ℕ, ◌+◌, ◌/◌, ◌≤◌, ◌<◌, min}
-use mathlib.Core.Path.{◌≡◌, refl, sym, ap, ◌∙◌}
+use mathlib.Core.Path.{◌≡◌, refl, sym, ap, subst, ◌∙◌}
 use mathlib.Core.Bool.{Bool, cond}
 use mathlib.Core.List.{List, [], ◌∷◌, ◌++◌, append-nil, map}
 use native.Mathlib.Nat.{add-zero}
@@ -61,7 +61,7 @@ module _ (top : ℕ) (h : ℕ → ℕ) where
   some-tied [] q = absurd (omega arith)
   some-tied (l ∷ ls) q =
       let e : low_of (l ∷ ls) ≡ least_of (h l) (map h ls) = omega (arith, least-min top (h l) (map h ls)) in
-      rw e (least-some h l ls)
+      subst (λ (b : ℕ). 0 < length (ties_by h b (l ∷ ls))) (sym e) (least-some h l ls)
 
   -- so where all are below top and none is at it, there are none
   pub none-tied : (ls : List ℕ) → ((i : ℕ) → i < length ls → h (get_or ls i 0) < top) → length (ties_by h (low_of ls) ls) ≡ 0 → length ls ≡ 0

@@ -3,7 +3,7 @@ use Rattle.std.specs.Prelude.{ℕ, zero, suc, ◌/◌, ◌≤◌, Bool, true, fa
 use Rattle.words.specs.Words.{hold_at, filled, state_after, word_count}
 use Rattle.written.specs.declared.Order.{Order}
 use Rattle.written.specs.Drawing.{Pick, chosen_from}
-use Rattle.written.specs.Lending.{Held, Slice}
+use Rattle.written.specs.Lending.{Held}
 use Rattle.written.specs.Agreement.{part_of}
 use Rattle.written.specs.Marks.{free_in}
 use Rattle.machine.specs.Tallies.{Tallies, tallies_at}
@@ -23,13 +23,13 @@ stand ws t y k = record { tables = moving ws t; generator = y; flips = k }
 
 -- those of lent tables, and of what goes beside them by value
 abbrev pub stand_at : Held → Held → Held → Held → Held → At → Stand
-stand_at ws ts bs us ps a = stand ws.now (tallies_at ts bs us ps a.number) a.generator.state a.flips
+stand_at ws ts bs us ps a = stand ws (tallies_at ts bs us ps a.number) a.generator.state a.flips
 
-abbrev pub stand_before : Slice → Slice → Slice → Slice → Slice → At → Stand
-stand_before ws ts bs us ps a = stand_at ws.entry ts.entry bs.entry us.entry ps.entry a
+abbrev pub stand_before : Held → Held → Held → Held → Held → At → Stand
+stand_before ws ts bs us ps a = stand_at ws ts bs us ps a
 
-abbrev pub stand_after : Slice → Slice → Slice → Slice → Slice → At → Stand
-stand_after ws ts bs us ps a = stand_at ws.exit ts.exit bs.exit us.exit ps.exit a
+abbrev pub stand_after : Held → Held → Held → Held → Held → At → Stand
+stand_after ws ts bs us ps a = stand_at ws ts bs us ps a
 
 -- how many clauses are uncovered, and which
 abbrev pub uncovered_number : Stand → ℕ

@@ -36,12 +36,12 @@ fn step(
     pinned: bool,
     at: At,
 ) -> At
-    requires { CanStep 65536 pinned order marks.now (fixed_at starts literals occurrence_starts occurrences)
-        (stand_at values trues breaks list places at)
+    requires { CanStep 65536 pinned order marks.now (fixed_at starts.now literals.now occurrence_starts.now occurrences.now)
+        (stand_at values.old trues.old breaks.old list.old places.old at)
         × (at.flips + 1 < 2 ^ 32) }
-    ensures { stand_after values trues breaks list places result
-        ≡ step_in order marks.now (fixed_before starts literals occurrence_starts occurrences)
-        (stand_before values trues breaks list places at) }
+    ensures { stand_after values.new trues.new breaks.new list.new places.new result
+        ≡ step_in order marks.now (fixed_before starts.now literals.now occurrence_starts.now occurrences.now)
+        (stand_before values.old trues.old breaks.old list.old places.old at) }
 {
     let number = at.number;
     let g = at.generator;
@@ -93,11 +93,11 @@ fn onwards(
     pinned: bool,
     from: At,
 ) -> At
-    requires { CanGo 65536 order.flips (2 ^ 32) pinned marks.now (fixed_at starts literals occurrence_starts occurrences)
-        (stand_at values trues breaks list places from) }
-    ensures { stand_after values trues breaks list places result
-        ≡ onwards_in order marks.now (fixed_before starts literals occurrence_starts occurrences) order.flips
-        (stand_before values trues breaks list places from) }
+    requires { CanGo 65536 order.flips (2 ^ 32) pinned marks.now (fixed_at starts.now literals.now occurrence_starts.now occurrences.now)
+        (stand_at values.old trues.old breaks.old list.old places.old from) }
+    ensures { stand_after values.new trues.new breaks.new list.new places.new result
+        ≡ onwards_in order marks.now (fixed_before starts.now literals.now occurrence_starts.now occurrences.now) order.flips
+        (stand_before values.old trues.old breaks.old list.old places.old from) }
 {
     let last = from.flips + order.flips;
     let mut at = from;
@@ -154,10 +154,10 @@ fn start(
     from: At,
 ) -> At
     requires { CanStart 65536 n.terms n.clauses marks.now (fixed starts.now literals.now [] [])
-        (stand_at values trues breaks list places from) }
-    ensures { stand_after values trues breaks list places result
+        (stand_at values.old trues.old breaks.old list.old places.old from) }
+    ensures { stand_after values.new trues.new breaks.new list.new places.new result
         ≡ start_in marks.now n.terms n.clauses (fixed starts.now literals.now [] [])
-        (stand_before values trues breaks list places from) }
+        (stand_before values.old trues.old breaks.old list.old places.old from) }
 {
     let terms = n.terms as usize;
     let g = from.generator;
@@ -221,12 +221,12 @@ pub fn one_walk(
     marks: &[u8],
     from: At,
 ) -> At
-    requires { CanBegin 65536 n.terms n.clauses marks.now (fixed_at starts literals occurrence_starts occurrences)
-        (stand_at values trues breaks list places from)
+    requires { CanBegin 65536 n.terms n.clauses marks.now (fixed_at starts.now literals.now occurrence_starts.now occurrences.now)
+        (stand_at values.old trues.old breaks.old list.old places.old from)
         × (from.flips + order.flips < 2 ^ 32) }
-    ensures { stand_after values trues breaks list places result
-        ≡ walk_in order marks.now n.terms n.clauses (fixed_before starts literals occurrence_starts occurrences)
-        (stand_before values trues breaks list places from) }
+    ensures { stand_after values.new trues.new breaks.new list.new places.new result
+        ≡ walk_in order marks.now n.terms n.clauses (fixed_before starts.now literals.now occurrence_starts.now occurrences.now)
+        (stand_before values.old trues.old breaks.old list.old places.old from) }
 {
     let at = start(
         n, values, starts, literals, trues, breaks, list, places, marks, from,

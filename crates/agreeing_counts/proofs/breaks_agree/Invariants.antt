@@ -1,12 +1,8 @@
-use mathlib.Core.Path.{◌≡◌, refl, sym, ◌∙◌}
+use mathlib.Core.Path.{◌≡◌}
 use mathlib.Core.Bool.{true}
 use Prim.Native.Nat.{◌-◌, ◌≤◌}
-use native.Mathlib.Omega.{arith}
-use borrow.Author.Tests.{eq-eqb, ne_eqb}
 use Rattle.written.specs.Lists.{all, below}
 use Rattle.machine.specs.Tested.{break_tested}
-use Rattle.laws.proofs.Tests.{tested-more, test_fails, tested-all}
-use borrow.Author.Rules.{rules}
 use Rattle.agreeing_counts.proofs.breaks_agree.Given as goal
 
 abbrev pub invariant-loop-t : goal.invariant-loop-t

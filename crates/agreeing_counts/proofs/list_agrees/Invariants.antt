@@ -1,11 +1,8 @@
-use mathlib.Core.Path.{◌≡◌, refl, sym, ◌∙◌}
+use mathlib.Core.Path.{◌≡◌}
 use mathlib.Core.Bool.{true}
 use Prim.Native.Nat.{◌-◌, ◌≤◌}
-use native.Mathlib.Omega.{arith}
 use Rattle.written.specs.Lists.{all, below}
 use Rattle.machine.specs.Tested.{place_tested}
-use Rattle.laws.proofs.Tests.{tested-more, test_fails, tested-all}
-use borrow.Author.Rules.{rules}
 use Rattle.agreeing_counts.proofs.list_agrees.Given as goal
 
 abbrev pub invariant-loop-c : goal.invariant-loop-c

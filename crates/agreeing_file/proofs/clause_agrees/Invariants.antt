@@ -1,13 +1,8 @@
-use mathlib.Core.Path.{◌≡◌, refl}
+use mathlib.Core.Path.{◌≡◌}
 use Prim.Native.Nat.{◌-◌}
-use native.Mathlib.Omega.{arith}
-use lib.ListN.{length, length-set}
-use borrow.Author.Rules.{rules}
-use Rattle.written.specs.Clauses.{term_of}
+use lib.ListN.{length}
 use Rattle.agreeing_file.specs.Marks.{is_fresh, mark_term}
-use Rattle.laws.proofs.Tests.{not-both}
-use Rattle.agreeing_file.proofs.Passing.{Passing, begun, fails, again, ended}
-use Rattle.agreeing_file.proofs.Marks.{unknown, repeated, fresh}
+use Rattle.agreeing_file.proofs.Passing.{Passing}
 use Rattle.agreeing_file.proofs.clause_agrees.Given as goal
 
 abbrev pub invariant-loop-i : goal.invariant-loop-i

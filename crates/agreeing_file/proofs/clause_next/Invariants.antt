@@ -1,13 +1,9 @@
-use mathlib.Core.Path.{◌≡◌, refl, sym, ◌∙◌}
+use mathlib.Core.Path.{◌≡◌}
 use Prim.Native.Nat.{◌-◌}
-use native.Mathlib.Omega.{arith}
 use lib.ListN.{length}
 use Rattle.written.specs.Agreement.{part_of}
-use Rattle.agreeing_file.specs.Matching.{is_next, pass_one, clause_next, pass_clause}
-use Rattle.laws.proofs.Tests.{not-both}
-use Rattle.agreeing_file.proofs.Passing.{Passing, begun, fails, again, ended}
-use Rattle.agreeing_file.proofs.Matching.{can-still}
-use borrow.Author.Rules.{rules}
+use Rattle.agreeing_file.specs.Matching.{is_next, pass_one}
+use Rattle.agreeing_file.proofs.Passing.{Passing}
 use Rattle.agreeing_file.proofs.clause_next.Given as goal
 
 abbrev pub invariant-loop-i : goal.invariant-loop-i

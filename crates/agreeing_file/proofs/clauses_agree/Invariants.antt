@@ -1,9 +1,7 @@
-use mathlib.Core.Path.{◌≡◌, refl}
+use mathlib.Core.Path.{◌≡◌}
 use Prim.Native.Nat.{◌-◌, ◌≤◌}
-use native.Mathlib.Omega.{arith}
 use lib.ListN.{length}
-use borrow.Author.Rules.{rules}
-use Rattle.agreeing_file.proofs.Marks.{Marking, marking_begun, marking_again, marking_fails, marking_ended}
+use Rattle.agreeing_file.proofs.Marks.{Marking}
 use Rattle.agreeing_file.proofs.clauses_agree.Given as goal
 
 abbrev pub invariant-loop-c : goal.invariant-loop-c

@@ -1,14 +1,10 @@
-use mathlib.Core.Path.{◌≡◌, refl, ap, ◌∙◌}
+use mathlib.Core.Path.{◌≡◌}
 use Prim.Native.Nat.{◌-◌}
-use native.Mathlib.Omega.{arith}
 use lib.ListN.{length}
 use Rattle.written.specs.Lists.{below}
 use Rattle.written.specs.Agreement.{part_of}
-use Rattle.agreeing_file.specs.Matching.{clause_next, pass_clause, clauses_next, pass_clauses}
-use Rattle.laws.proofs.Tests.{not-both}
-use Rattle.agreeing_file.proofs.Passing.{Passing, begun, range-fails, range-again, range-ended}
-use Rattle.agreeing_file.proofs.Matching.{clause-is, can-clause}
-use borrow.Author.Rules.{rules}
+use Rattle.agreeing_file.specs.Matching.{clause_next, pass_clause}
+use Rattle.agreeing_file.proofs.Passing.{Passing}
 use Rattle.agreeing_file.proofs.clauses_next.Given as goal
 
 abbrev pub invariant-loop-c : goal.invariant-loop-c

@@ -1,8 +1,5 @@
-use mathlib.Core.Path.{◌≡◌, ap, sym, ◌∙◌}
-use borrow.Author.Rules.{rules}
-use borrow.Author.Tests.{le-leb, lt-leb}
+use mathlib.Core.Path.{◌≡◌}
 use Rattle.written.specs.Agreement.{name_bytes, is_name}
-use Rattle.agreeing_file.proofs.Names.{name-begun, name-ended, name-left, name-over}
 use Rattle.agreeing_file.proofs.is_name.Given as goal
 
 abbrev pub invariant-loop-left : goal.invariant-loop-left

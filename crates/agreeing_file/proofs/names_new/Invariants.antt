@@ -1,12 +1,9 @@
-use mathlib.Core.Path.{◌≡◌, refl}
+use mathlib.Core.Path.{◌≡◌}
 use Prim.Native.Nat.{◌-◌, ◌≤◌}
-use native.Mathlib.Omega.{arith}
-use lib.ListN.{length, take, length-set}
-use borrow.Author.Rules.{rules}
+use lib.ListN.{length, take}
 use Rattle.written.specs.Limits.{narrow}
 use Rattle.machine.specs.Slots.{Indexed}
 use Rattle.names.specs.Finding.{homes}
-use Rattle.machine.proofs.Slots.{differ-fails, slot_in, next_known, all_known}
 use Rattle.agreeing_file.proofs.names_new.Given as goal
 
 abbrev pub invariant-loop-i : goal.invariant-loop-i

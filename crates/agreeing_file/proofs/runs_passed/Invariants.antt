@@ -1,11 +1,8 @@
-use mathlib.Core.Path.{◌≡◌, refl}
+use mathlib.Core.Path.{◌≡◌}
 use mathlib.Core.Bool.{true}
 use Prim.Native.Nat.{◌-◌, ◌≤◌}
-use native.Mathlib.Omega.{arith}
 use Rattle.written.specs.Agreement.{part_of}
 use Rattle.agreeing_file.specs.Matching.{runs_passed}
-use Rattle.agreeing_file.proofs.Matching.{passed-fails, passed-more, passed-all}
-use borrow.Author.Rules.{rules}
 use Rattle.agreeing_file.proofs.runs_passed.Given as goal
 
 abbrev pub invariant-loop-l : goal.invariant-loop-l

@@ -1,11 +1,8 @@
-use mathlib.Core.Path.{◌≡◌, refl}
+use mathlib.Core.Path.{◌≡◌}
 use mathlib.Core.Bool.{true}
 use Prim.Native.Nat.{◌-◌, ◌≤◌}
-use native.Mathlib.Omega.{arith}
 use lib.ListN.{get_or}
 use Rattle.agreeing_file.specs.Matching.{never_fall}
-use Rattle.agreeing_file.proofs.Matching.{falls, rises-more, rises-all, cuts_first, cuts-falls, cuts-last}
-use borrow.Author.Rules.{rules}
 use Rattle.agreeing_file.proofs.starts_cut.Given as goal
 
 abbrev pub invariant-loop-k : goal.invariant-loop-k

@@ -2,9 +2,7 @@
 use Prim.Native.Nat.{◌-◌}
 use lib.ListN.{length}
 use lib.Dec.{eqb}
-use borrow.Author.Rules.{rules}
-use borrow.Author.Tests.{eq-eqb, ne_eqb}
-use Rattle.laws.proofs.Tests.{Tested, none-tested, one-tested, one-fails, all_tested}
+use Rattle.laws.proofs.Tests.{Tested}
 use Rattle.agreeing_rest.proofs.no_values.Given as goal
 
 abbrev pub invariant-loop-i : goal.invariant-loop-i

@@ -1,4 +1,5 @@
 -- `digits::all_digits` meets its contract: every byte before i is a digit. Assumes nothing.
+use mathlib.Core.Path.{sym, ◌∙◌}
 use Prim.Native.Nat.{◌-◌}
 use lib.ListN.{length}
 use borrow.Author.Rules.{rules}
@@ -8,7 +9,7 @@ use Rattle.digits.proofs.all_digits.Goals as goal
 
 pub loop-i-preserved : goal.loop-i-preserved
 loop-i-preserved c =
-    one-tested is_digit _ _ c.loop-i.invariant c.loop-i-test.true (said-yes c.if-not-is_digit.false c.is_digit.ensures)
+    one-tested is_digit _ _ c.loop-i.invariant c.loop-i-test.true (sym c.is_digit.ensures ∙ c.if-not-is_digit.false)
 
 pub returns : goal.returns
 returns c = all_tested is_digit _ _ c.loop-i.invariant c.loop-i-test.false

@@ -1,6 +1,6 @@
 -- `digits::is_number` meets its contract: each way out by the tests that lead there. Assumes nothing.
 use Prim.Native.Nat.{ℕ}
-use mathlib.Core.Path.{◌≡◌}
+use mathlib.Core.Path.{◌≡◌, sym, ◌∙◌}
 use mathlib.Core.Bool.{true, false}
 use native.Mathlib.Omega.{arith}
 use borrow.Author.Rules.{rules}
@@ -26,14 +26,14 @@ returns-then-n-gt10 c = rw (some _ c.if-n-eq0.false, lt-leb _ 10 c.if-n-gt10.tru
 
 pub returns-then-not-all_digits : goal.returns-then-not-all_digits
 unfolding is_number
-returns-then-not-all_digits c = rw (some _ c.if-n-eq0.false, le-leb _ 10 c.if-n-gt10.false, said_no c.if-not-all_digits.true c.all_digits.ensures)
+returns-then-not-all_digits c = rw (some _ c.if-n-eq0.false, le-leb _ 10 c.if-n-gt10.false, sym c.all_digits.ensures ∙ c.if-not-all_digits.true)
 
 pub returns-then-n-eq1 : goal.returns-then-n-eq1
 unfolding is_number
 returns-then-n-eq1 c =
-    rw (some _ c.if-n-eq0.false, le-leb _ 10 c.if-n-gt10.false, said-yes c.if-not-all_digits.false c.all_digits.ensures, eq-eqb _ 1 c.if-n-eq1.true)
+    rw (some _ c.if-n-eq0.false, le-leb _ 10 c.if-n-gt10.false, sym c.all_digits.ensures ∙ c.if-not-all_digits.false, eq-eqb _ 1 c.if-n-eq1.true)
 
 pub returns-else-n-eq1 : goal.returns-else-n-eq1
 unfolding is_number
 returns-else-n-eq1 c =
-    rw (some _ c.if-n-eq0.false, le-leb _ 10 c.if-n-gt10.false, said-yes c.if-not-all_digits.false c.all_digits.ensures, ne_eqb _ 1 c.if-n-eq1.false)
+    rw (some _ c.if-n-eq0.false, le-leb _ 10 c.if-n-gt10.false, sym c.all_digits.ensures ∙ c.if-not-all_digits.false, ne_eqb _ 1 c.if-n-eq1.false)

@@ -1,14 +1,10 @@
 -- `flipping::flip_all` meets its contract: a loop over a run of flips. Assumes nothing.
-use mathlib.Core.Path.{◌≡◌, refl, ◌∙◌}
+use mathlib.Core.Path.{◌≡◌}
 use Prim.Native.Nat.{◌-◌}
-use native.Mathlib.Omega.{arith}
 use lib.ListN.{length}
-use mir.Facts.{Fits-16_64}
 use Rattle.machine.specs.Tallies.{tallies, SameSizes}
 use Rattle.machine.specs.Moving.{moving, occurring, flip_term, CanFlip}
-use Rattle.machine.proofs.Runs.{Running, begun, next-can, again, ended}
-use Rattle.machine.proofs.Sizes.{sizes-refl, sizes_trans}
-use borrow.Author.Rules.{rules}
+use Rattle.machine.proofs.Runs.{Running}
 use Rattle.flipping.proofs.flip_all.Given as goal
 
 abbrev pub invariant-loop-k : goal.invariant-loop-k

@@ -2,9 +2,7 @@
 use Prim.Native.Nat.{◌-◌}
 use lib.ListN.{length}
 use Rattle.machine.specs.Tallies.{tallies, SameSizes, CanGain, gain_one}
-use Rattle.machine.proofs.Runs.{Running, begun, next-can, again, ended}
-use Rattle.machine.proofs.Sizes.{sizes-refl, sizes_trans}
-use borrow.Author.Rules.{rules}
+use Rattle.machine.proofs.Runs.{Running}
 use Rattle.flipping.proofs.gain_run.Given as goal
 
 abbrev pub invariant-loop-i : goal.invariant-loop-i

@@ -1,7 +1,6 @@
 -- `marked::marks_hold` meets its contract: the terms passed are as marked. Assumes nothing.
 use Prim.Native.Nat.{◌-◌}
-use borrow.Author.Rules.{rules}
-use Rattle.marked.proofs.MarksTested.{Passed, none_passed, one-passed, one_differs, all-passed}
+use Rattle.marked.proofs.MarksTested.{Passed}
 use Rattle.marked.proofs.marks_hold.Given as goal
 
 abbrev pub invariant-loop-t : goal.invariant-loop-t

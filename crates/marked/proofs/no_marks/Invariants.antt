@@ -1,8 +1,7 @@
 -- `marked::no_marks` meets its contract: what the marks are joined to is 0 exactly if each is. Assumes nothing.
 use Prim.Native.Nat.{◌-◌}
 use lib.ListN.{length}
-use borrow.Author.Rules.{rules}
-use Rattle.machine.proofs.Rest.{Joined, none-joined, one-joined, all-joined}
+use Rattle.machine.proofs.Rest.{Joined}
 use Rattle.marked.proofs.no_marks.Given as goal
 
 abbrev pub invariant-loop-i : goal.invariant-loop-i

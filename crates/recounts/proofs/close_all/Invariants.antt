@@ -1,10 +1,7 @@
-use mathlib.Core.Path.{◌≡◌, refl, ◌∙◌}
+use mathlib.Core.Path.{◌≡◌}
 use Prim.Native.Nat.{◌-◌, ◌≤◌}
-use native.Mathlib.Omega.{arith}
 use lib.ListN.{length}
 use Rattle.machine.specs.Passes.{rewritten, rest_place}
-use Rattle.machine.proofs.Rewritten.{rewritten-none, rewritten-more, rewritten-end}
-use borrow.Author.Rules.{rules}
 use Rattle.recounts.proofs.close_all.Given as goal
 
 abbrev pub invariant-loop-c : goal.invariant-loop-c

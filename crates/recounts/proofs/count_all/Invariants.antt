@@ -1,12 +1,8 @@
-use mathlib.Core.Path.{◌≡◌, sym, subst}
+use mathlib.Core.Path.{◌≡◌}
 use Prim.Native.Nat.{◌-◌, ◌≤◌}
-use native.Mathlib.Omega.{arith}
 use Rattle.machine.specs.Tallies.{tallies, SameSizes}
 use Rattle.machine.specs.Moving.{view}
-use Rattle.machine.specs.Passes.{CanCount, counted}
-use Rattle.machine.proofs.Rewritten.{up_none, up_more, up-end}
-use Rattle.machine.proofs.Sizes.{sizes-refl, sizes_trans}
-use borrow.Author.Rules.{rules}
+use Rattle.machine.specs.Passes.{counted}
 use Rattle.recounts.proofs.count_all.Given as goal
 
 abbrev pub invariant-loop-c : goal.invariant-loop-c

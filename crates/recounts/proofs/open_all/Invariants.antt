@@ -1,11 +1,8 @@
-use mathlib.Core.Path.{◌≡◌, refl, ◌∙◌}
+use mathlib.Core.Path.{◌≡◌}
 use Prim.Native.Nat.{◌-◌, ◌≤◌}
-use native.Mathlib.Omega.{arith}
 use lib.ListN.{length}
 use Rattle.machine.specs.Moving.{view}
 use Rattle.machine.specs.Passes.{rewritten, walk_place}
-use Rattle.machine.proofs.Rewritten.{rewritten-none, rewritten-more, rewritten-end}
-use borrow.Author.Rules.{rules}
 use Rattle.recounts.proofs.open_all.Given as goal
 
 abbrev pub invariant-loop-c : goal.invariant-loop-c

@@ -1,15 +1,10 @@
 -- `walking_choice::least_all` meets its contract: what the literals so far give, and one more each turn. Assumes nothing.
 -- without a mark every term is free
-use Prim.Native.Nat.{ℕ, ◌-◌, ◌/◌}
-use mathlib.Core.Path.{ap, ◌∙◌}
-use mathlib.Core.List.{List, []}
-use native.Mathlib.Omega.{arith}
-use lib.ListN.{length, get_or}
-use borrow.Author.Rules.{rules}
-use Rattle.written.specs.Marks.{is_free, free_in}
-use Rattle.laws.proofs.Marks.{all-free}
-use Rattle.walking_choice.specs.Choosing.{break_in, is_free_in, lowest, lowest_in}
-use Rattle.walking_choice.proofs.LeastBreaks.{has-entry, Looking, look-begun, look-few, look-more, look-done}
+use Prim.Native.Nat.{◌-◌}
+use mathlib.Core.List.{[]}
+use lib.ListN.{length}
+use Rattle.walking_choice.specs.Choosing.{break_in, is_free_in, lowest}
+use Rattle.walking_choice.proofs.LeastBreaks.{Looking}
 use Rattle.walking_choice.proofs.least_all.Given as goal
 
 abbrev pub invariant-loop-i : goal.invariant-loop-i

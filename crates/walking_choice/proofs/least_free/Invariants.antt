@@ -1,11 +1,8 @@
 -- `walking_choice::least_free` meets its contract: what the literals so far give, and one more each turn. Assumes nothing.
-use Prim.Native.Nat.{◌-◌, ◌/◌}
-use native.Mathlib.Omega.{arith}
-use lib.ListN.{length, get_or}
-use borrow.Author.Rules.{rules}
-use Rattle.written.specs.Marks.{free_in}
+use Prim.Native.Nat.{◌-◌}
+use lib.ListN.{length}
 use Rattle.walking_choice.specs.Choosing.{break_in, is_free_in, lowest}
-use Rattle.walking_choice.proofs.LeastBreaks.{has-entry, Looking, look-begun, look-few, look-more, look-done}
+use Rattle.walking_choice.proofs.LeastBreaks.{Looking}
 use Rattle.walking_choice.proofs.least_free.Given as goal
 
 abbrev pub invariant-loop-i : goal.invariant-loop-i

@@ -1,12 +1,8 @@
 -- `walking_choice::nth_free` meets its contract: the literals that are to be passed yet lead to it. Assumes nothing.
 use Prim.Native.Nat.{◌-◌}
-use native.Mathlib.Omega.{arith}
 use lib.ListN.{length}
-use borrow.Author.Rules.{rules}
-use Rattle.written.specs.Marks.{free_in}
 use Rattle.walking_choice.specs.Choosing.{is_free_in}
-use Rattle.walking_choice.proofs.Among.{one-few, GoingTo, go-few, go-begun, go-stands, go-more, go-done}
-use Rattle.walking_choice.proofs.LeastBreaks.{has-entry}
+use Rattle.walking_choice.proofs.Among.{GoingTo}
 use Rattle.walking_choice.proofs.nth_free.Given as goal
 
 abbrev pub invariant-loop-ahead : goal.invariant-loop-ahead

@@ -1,12 +1,8 @@
 -- `walking_choice::nth_free_at` meets its contract: the literals that are to be passed yet lead to it. Assumes nothing.
 use Prim.Native.Nat.{◌-◌}
-use native.Mathlib.Omega.{arith}
 use lib.ListN.{length}
-use borrow.Author.Rules.{rules}
 use Rattle.walking_choice.specs.Choosing.{is_tie}
-use Rattle.walking_choice.proofs.Among.{one-few, GoingTo, go-few, go-begun, go-stands, go-more, go-done}
-use Rattle.walking_choice.proofs.LeastBreaks.{has-entry}
-use Rattle.walking_choice.proofs.Ties.{tie_stands, tie_is}
+use Rattle.walking_choice.proofs.Among.{GoingTo}
 use Rattle.walking_choice.proofs.nth_free_at.Given as goal
 
 abbrev pub invariant-loop-left : goal.invariant-loop-left

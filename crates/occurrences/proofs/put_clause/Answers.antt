@@ -1,0 +1,16 @@
+use mathlib.Core.Path.{◌≡◌, refl, ◌∙◌}
+use Prim.Native.Nat.{◌-◌}
+use native.Mathlib.Omega.{arith}
+use lib.ListN.{length}
+use Rattle.machine.specs.Filling.{filling, put_one, CanPut}
+use Rattle.machine.proofs.Runs.{Running, begun, next-can, again, ended}
+use borrow.Author.Rules.{rules}
+use Rattle.occurrences.proofs.put_clause.Goals as goal
+
+pub put_one-requires : goal.put_one-requires
+put_one-requires c = next-can _ _ _ _ _ _ c.loop-i.invariant.0 c.loop-i-test.true
+
+pub loop-i-preserved : goal.loop-i-preserved
+loop-i-preserved c =
+    let inv = c.loop-i.invariant in
+    (search again, c.put_one.auto.occurrences ∙ inv.1, c.put_one.auto.cursors ∙ inv.2)

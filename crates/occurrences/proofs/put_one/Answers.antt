@@ -1,0 +1,6 @@
+use Rattle.occurrences.proofs.Filling.{put_is}
+use borrow.Author.Rules.{rules}
+use Rattle.occurrences.proofs.put_one.Goals as goal
+
+pub returns : goal.returns
+returns c = search put_is

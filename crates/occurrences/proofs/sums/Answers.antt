@@ -1,0 +1,25 @@
+use mathlib.Core.Path.{◌≡◌, refl}
+use Prim.Native.Nat.{◌-◌, ◌≤◌}
+use native.Mathlib.Nat.{le_trans}
+use native.Mathlib.Omega.{arith}
+use lib.ListN.{length, take, length-set}
+use Rattle.written.specs.Lists.{total}
+use Rattle.machine.specs.Passes.{rewritten}
+use Rattle.machine.proofs.Rewritten.{rewritten-none}
+use Rattle.occurrences.proofs.Summing.{sum_more, sum_fits, start-more, start-last}
+use borrow.Author.Rules.{rules}
+use Rattle.occurrences.proofs.sums.Goals as goal
+
+pub loop-l-init : goal.loop-l-init
+loop-l-init c = (omega arith, refl, rewritten-none _ _, refl)
+
+pub overflow_add-at : goal.overflow_add-at
+overflow_add-at c = omega (arith, sum_fits _ _ c.loop-l.invariant.1 _ _ _ c.requires c.loop-l-test.true)
+
+pub loop-l-preserved : goal.loop-l-preserved
+loop-l-preserved c =
+    let inv = c.loop-l.invariant in
+    (omega arith, search (sum_more, le_trans), start-more _ _ inv.1 _ _ inv.2, simp length-set inv.3)
+
+pub returns : goal.returns
+returns c = search start-last
