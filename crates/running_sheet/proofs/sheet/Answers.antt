@@ -1,9 +1,7 @@
 -- `running_sheet::sheet` meets its contract: the four lines, then the fifth as it stands in what follows them. Assumes nothing.
 use mathlib.Core.Path.{ap, ◌∙◌}
 use native.Mathlib.Omega.{arith}
-use borrow.Author.Rules.{rules}
 use Rattle.written.specs.declared.Ordered.TheVariants.{Accepted}
-use Rattle.laws.proofs.Tests.{said_no, said-yes}
 use Rattle.running_sheet.proofs.Fifth.{stays-refused, known, no_fifth, other-fifth, even-fifth}
 use mathlib.Core.Path.{sym}
 use Rattle.running_sheet.proofs.sheet.Goals as goal
