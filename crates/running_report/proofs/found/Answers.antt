@@ -1,12 +1,11 @@
 -- `running_report::found` meets its contract: it is put together from its calls. Assumes nothing.
 use mathlib.Core.Path.{refl}
-use borrow.Author.Rules.{rules}
 use Rattle.pages.proofs.Pieces.{first_fits, onward, ended}
 use Rattle.running_report.proofs.Lines.{found_left}
 use Rattle.running_report.proofs.found.Goals as goal
 
 pub put_tour-fourth-requires : goal.put_tour-fourth-requires
-put_tour-fourth-requires c = ?
+put_tour-fourth-requires c = first_fits (found_left _ _ _ _ _ _ refl c.requires.fits)
 
 pub put_line-fifth-requires : goal.put_line-fifth-requires
 put_line-fifth-requires c =

@@ -1,12 +1,8 @@
 -- `running_report::put_answer` meets its contract: the terms that are left make the answer. Assumes nothing.
-use mathlib.Core.Path.{◌≡◌, refl, ◌∙◌}
-use mathlib.Core.List.{◌∷◌, []}
-use Prim.Native.Nat.{◌-◌}
-use lib.ListN.{length}
-use borrow.Author.Rules.{rules}
-use Rattle.pages.specs.Pages.{page, put}
-use Rattle.pages.proofs.Pieces.{Left, begun, first_fits, onward, split, over, ended}
-use Rattle.running_report.proofs.Named.{terms_from, terms-over, terms-more, answer-none, answer-more}
+use mathlib.Core.Path.{refl, ◌∙◌}
+use mathlib.Core.List.{[]}
+use Rattle.pages.proofs.Pieces.{begun, first_fits, onward, split, over, ended}
+use Rattle.running_report.proofs.Named.{terms-over, terms-more, answer-none, answer-more}
 use Rattle.running_report.proofs.put_answer.Goals as goal
 
 pub returns-then-terms-eq0 : goal.returns-then-terms-eq0

@@ -1,6 +1,5 @@
 -- `running_report::put_tour` meets its contract: it is put together from its calls. Assumes nothing.
 use mathlib.Core.List.{◌∷◌, []}
-use borrow.Author.Rules.{rules}
 use Rattle.pages.proofs.Pieces.{begun, first_fits, onward, ended}
 use Rattle.running_report.proofs.put_tour.Goals as goal
 

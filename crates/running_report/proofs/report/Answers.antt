@@ -1,5 +1,4 @@
 -- `running_report::report` meets its contract: each arm prints what is written for it. Assumes nothing.
-use borrow.Author.Rules.{rules}
 use Rattle.running_report.specs.Reporting.{report_in}
 use Rattle.running_report.proofs.report.Goals as goal
 

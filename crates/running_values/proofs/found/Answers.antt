@@ -1,11 +1,10 @@
 -- `running_values::found` meets its contract: it is put together from its calls. Assumes nothing.
-use borrow.Author.Rules.{rules}
 use Rattle.pages.proofs.Pieces.{first_fits, onward, ended}
 use Rattle.running_values.proofs.Lines.{found_left}
 use Rattle.running_values.proofs.found.Goals as goal
 
 pub put_tour-third-requires : goal.put_tour-third-requires
-put_tour-third-requires c = ?
+put_tour-third-requires c = first_fits (found_left _ _ _ c.requires)
 
 pub put_all-fourth-requires : goal.put_all-fourth-requires
 put_all-fourth-requires c = first_fits (onward (found_left _ _ _ c.requires) c.put_tour-third.ensures)

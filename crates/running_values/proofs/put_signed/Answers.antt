@@ -1,6 +1,5 @@
 -- `running_values::put_signed` meets its contract: with the sign or without it. Assumes nothing.
 use mathlib.Core.List.{[]}
-use borrow.Author.Rules.{rules}
 use Rattle.pages.proofs.Pieces.{begun, first_fits, onward, split, ended}
 use Rattle.running_values.proofs.Lines.{signed_no, signed_yes}
 use Rattle.running_values.proofs.put_signed.Goals as goal

@@ -1,6 +1,5 @@
 -- `running_values::put_tour` meets its contract: it is put together from its calls. Assumes nothing.
 use mathlib.Core.List.{◌∷◌, []}
-use borrow.Author.Rules.{rules}
 use Rattle.pages.proofs.Pieces.{begun, first_fits, onward, ended}
 use Rattle.running_values.proofs.put_tour.Goals as goal
 

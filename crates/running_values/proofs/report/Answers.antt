@@ -1,5 +1,4 @@
 -- `running_values::report` meets its contract: each arm prints what is written for it. Assumes nothing.
-use borrow.Author.Rules.{rules}
 use Rattle.running_values.specs.Valuing.{competed_in}
 use Rattle.running_values.proofs.report.Goals as goal
 
