@@ -32,7 +32,7 @@ pub fn ngi_read_numbered(
         uncovered_list.old places.old)
         marks.old) }
 {
-    let answer = reading::read(
+    let answer = reading::read_as(
         Form::Numbered,
         text,
         names,

@@ -9,13 +9,13 @@ use lib.ListN.{length, get_or}
 use lib.Seq.{ext_get_or}
 use lib.Dec.{eqb}
 use borrow.Author.Tests.{eqb-true, eqb-false}
-use Rattle.words.specs.Words.{bit_at, turn_at, hold_at}
+use Rattle.words.specs.Words.{bit_at, hold_at}
 use Rattle.written.specs.Lists.{padded}
 use Rattle.written.specs.Flips.{turned}
 use Rattle.written.specs.Tables.{words_of, over}
 use Rattle.written.specs.Marks.{held_at, held}
 use Rattle.laws.specs.Valid.{Bits}
-use Rattle.laws.proofs.Basics.{by_cases, by-eq, by-lt}
+use Rattle.laws.proofs.Basics.{by_cases, by-eq}
 use Rattle.laws.proofs.Turning.{bit_at_lem, turned-length, turned-bits, turned_same, turned-other}
 use Rattle.laws.proofs.Values.{turn-over}
 use Rattle.laws.proofs.Marks.{held-length, held_get}

@@ -1,10 +1,8 @@
 -- `flipping_lists::free` meets its contract: the terms passed are free. Assumes nothing.
 use Prim.Native.Nat.{◌-◌}
-use native.Mathlib.Omega.{arith}
 use lib.ListN.{length}
-use borrow.Author.Rules.{rules}
 use Rattle.written.specs.Marks.{is_free}
-use Rattle.laws.proofs.Tests.{Tested, none-tested, one-tested, one-fails, all_tested, said_no, said-yes}
+use Rattle.laws.proofs.Tests.{Tested}
 use Rattle.flipping_lists.proofs.free.Given as goal
 
 abbrev pub invariant-loop-i : goal.invariant-loop-i

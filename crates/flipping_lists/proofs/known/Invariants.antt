@@ -1,11 +1,8 @@
 -- `flipping_lists::known` meets its contract: the terms passed are known. Assumes nothing.
 use Prim.Native.Nat.{◌-◌}
-use native.Mathlib.Omega.{arith}
 use lib.ListN.{length}
 use lib.Dec.{ltb}
-use borrow.Author.Rules.{rules}
-use borrow.Author.Tests.{lt-ltb, le-ltb}
-use Rattle.laws.proofs.Tests.{Tested, none-tested, one-tested, one-fails, all_tested}
+use Rattle.laws.proofs.Tests.{Tested}
 use Rattle.flipping_lists.proofs.known.Given as goal
 
 abbrev pub invariant-loop-i : goal.invariant-loop-i

@@ -1,14 +1,11 @@
 -- `walking::all_walks` meets its contract: the walks that are left make the whole. Assumes nothing.
-use mathlib.Core.Path.{◌≡◌, refl, ◌∙◌}
+use mathlib.Core.Path.{◌≡◌}
 use Prim.Native.Nat.{◌-◌, ◌^◌}
 use lib.ListN.{length}
-use native.Mathlib.Omega.{arith}
-use borrow.Author.Rules.{rules}
 use Rattle.machine.specs.Tallies.{tallies, SameSizes}
 use Rattle.machine.specs.Moving.{fixed}
-use Rattle.machine.proofs.Sizes.{sizes-refl, sizes_trans}
 use Rattle.walking_steps.specs.Stepping.{stand}
-use Rattle.walking.proofs.Loop.{Standing, begun, more, next-can, again, over}
+use Rattle.walking.proofs.Loop.{Standing}
 use Rattle.walking.proofs.all_walks.Given as goal
 
 abbrev pub invariant-loop-found : goal.invariant-loop-found

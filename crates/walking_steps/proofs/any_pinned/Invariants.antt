@@ -1,7 +1,6 @@
 -- `walking_steps::any_pinned` meets its contract: the marks passed are those looked at. Assumes nothing.
 use Prim.Native.Nat.{◌-◌}
-use borrow.Author.Rules.{rules}
-use Rattle.walking_steps.proofs.Plain.{Seeing, see_begun, see_more, see_done}
+use Rattle.walking_steps.proofs.Plain.{Seeing}
 use Rattle.walking_steps.proofs.any_pinned.Given as goal
 
 abbrev pub invariant-loop-t : goal.invariant-loop-t

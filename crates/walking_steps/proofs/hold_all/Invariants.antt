@@ -1,9 +1,6 @@
 -- `walking_steps::hold_all` meets its contract: the terms passed have the values of their marks. Assumes nothing.
-use Prim.Native.Nat.{◌-◌, ◌≤◌}
-use native.Mathlib.Omega.{arith}
-use lib.ListN.{length}
-use borrow.Author.Rules.{rules}
-use Rattle.walking_steps.proofs.Held.{Holding, hold-begun, hold-more, hold-done}
+use Prim.Native.Nat.{◌-◌}
+use Rattle.walking_steps.proofs.Held.{Holding}
 use Rattle.walking_steps.proofs.hold_all.Given as goal
 
 abbrev pub invariant-loop-t : goal.invariant-loop-t

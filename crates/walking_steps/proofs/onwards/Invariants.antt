@@ -1,13 +1,11 @@
 -- `walking_steps::onwards` meets its contract: what is left of the walk makes the whole. Assumes nothing.
-use mathlib.Core.Path.{◌≡◌, refl, ap, ◌∙◌}
+use mathlib.Core.Path.{◌≡◌}
 use Prim.Native.Nat.{◌+◌, ◌-◌, ◌^◌}
-use native.Mathlib.Omega.{arith}
 use lib.ListN.{length}
 use Rattle.machine.specs.Tallies.{tallies, SameSizes}
 use Rattle.machine.specs.Moving.{fixed}
-use Rattle.machine.proofs.Sizes.{sizes-refl, sizes_trans}
-use Rattle.walking_steps.specs.Stepping.{Stand, stand}
-use Rattle.walking_steps.proofs.Loop.{Going, begun, found, next-can, stuck, one-made, again, ended}
+use Rattle.walking_steps.specs.Stepping.{stand}
+use Rattle.walking_steps.proofs.Loop.{Going}
 use Rattle.walking_steps.proofs.onwards.Given as goal
 
 abbrev pub invariant-loop-at : goal.invariant-loop-at
