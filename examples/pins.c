@@ -1,6 +1,6 @@
 /*
  * Two placements are settled: they are pinned, and no walk moves them. The merge is that of sheets/merge.txt, where the name can:riv stands
- * for: Canals goes under Rivers. After `rt staticlib ngiyarumba`, from the folder above this one:
+ * for: Canals goes under Rivers. After `tools/staticlib ngiyarumba`, from the folder above this one:
  *
  *   cc -Iinclude examples/pins.c target/staticlib/libngiyarumba.a -o pins && ./pins
  *

@@ -1,4 +1,4 @@
-//! Links the static library that `rt staticlib ngiyarumba` writes.
+//! Links the static library that `tools/staticlib ngiyarumba` writes.
 
 use std::env;
 use std::path::{Path, PathBuf};
@@ -18,7 +18,7 @@ fn main() {
     println!("cargo:rerun-if-changed={}", archive.display());
     if !archive.is_file() {
         eprintln!("There is no {}.", archive.display());
-        eprintln!("Run `rt staticlib ngiyarumba` first, or have {FOLDER} name its folder.");
+        eprintln!("Run `tools/staticlib ngiyarumba` first, or have {FOLDER} name its folder.");
         exit(1);
     }
     println!("cargo:rustc-link-search=native={}", folder.display());

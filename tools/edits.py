@@ -42,8 +42,8 @@ def row_cites(section, row):
 
 
 def exported():
-    """Every function that is exported, as CRATE::name."""
-    return {f"{path.parts[-3]}::{name}" for path in ROOT.glob("crates/*/src/*.rt") for name in re.findall(r'extern "C" fn (\w+)', path.read_text())}
+    """Every function that is exported, as CRATE::name of the library that it belongs to."""
+    return {f"{path.parts[-3].removesuffix('_c')}::{name}" for path in ROOT.glob("crates/*/src/*.rt") for name in re.findall(r'extern "C" fn (\w+)', path.read_text())}
 
 
 def to_be_moved(over_a_check):

@@ -1,17 +1,18 @@
-"""The wrong versions that the prover must refuse: where their edits stand, what each puts where, and what the prover said of it.
+"""The wrong versions that the prover must refuse: where their edits stand, what each puts where, and what rt said of it.
 
-rt ci tries those under crates/CRATE/must-fail from nothing, tools/wrong those under tests/wrong/CRATE over a copy of what one check of their crate left.
-Both have one form: a `file:` line, then pairs of `old:` and `new:`; lines of no key are passed over."""
+rt ci tries those under crates/CRATE/must-fail, tools/wrong those under tests/wrong/CRATE. Both have one form: a `file:` line, then pairs of `old:` and `new:`; lines
+of no key are passed over."""
 import re
 from pathlib import Path
 from typing import NamedTuple
 
 ROOT = Path(__file__).resolve().parent.parent
 FROM_NOTHING, OVER_A_CHECK = "must-fail", "wrong"
+SAID = {FROM_NOTHING: ROOT / "target/said/ci", OVER_A_CHECK: ROOT / "target/said/wrong"}  # what rt ci and what tools/wrong said
+REFUSED = "refused, as it must be: "
 SHAPE = (
     r"has no (field )?`|is not in scope|is not a constructor of|can be named from here|too many arguments|is not a function|is a reserved word|unexpected"
-    r"|not determined by the signature|no occurrence of the path's left endpoint|no equation of the list has an instance|expected type `tie\.Need-"
-    r"|first differ where one has `\S+\.Lts\.(After-|Then)"
+    r"|not determined by the signature|no occurrence of the path's left endpoint|no equation of the list has an instance|was not admitted"
     r"|expected type `\w+`, but this has type `\w+`"
 )
 
@@ -24,10 +25,6 @@ class Edit(NamedTuple):
 
     def __str__(self):
         return f"{self.crate}/{self.name}"
-
-    def place(self):
-        """Where its copy of the crate and its log are made."""
-        return ROOT / "target" / self.tried / self.crate / self.name
 
 
 def edits():
@@ -58,17 +55,13 @@ def applied(edit):
     return texts, found
 
 
-def first_said(log):
-    """What the prover says first: an error, or what it could not show where a function has no proof of its own."""
-    said = re.search(r"(?m)^note: \S+: it is not proved that .*$", log) or re.search(r"(?m)^\S+: error: .*$", log)
-    return said.group() if said else ""
+def told(log):
+    """What rt said of each edit in a log, by CRATE/NAME."""
+    return dict(re.findall(r"(?m)^rt: must-fail (\w+/\w+)\.edit: (.*)$", log))
 
 
-def not_at_a_fact(log):
-    """Why what the prover said is no refusal at a fact; nothing where it is one."""
-    said = first_said(log)
-    if not re.search(r"(?m)^logic=not-proved", log):
-        return "the prover did not come to 'not proved'"
-    if not said:
-        return "no error is in its log"
-    return f"for its shape: {said[:300]}" if re.search(SHAPE, said) else ""
+def not_at_a_fact(words):
+    """Why what rt said of an edit is no refusal at a fact; nothing where it is one."""
+    if not words.startswith(REFUSED):
+        return words or "it was not tried"
+    return f"for its shape: {words.removeprefix(REFUSED)}" if re.search(SHAPE, words) else ""

@@ -26,7 +26,7 @@
 //! left for the caller to keep in step: the counts stay beside the tables that they belong to, and
 //! every table has its full size.
 //!
-//! The library is for x86-64. `rt staticlib ngiyarumba` writes it to `target/staticlib`; a library
+//! The library is for x86-64. `tools/staticlib ngiyarumba` writes it to `target/staticlib`; a library
 //! that stands elsewhere is found by the folder that `NGIYARUMBA_LIB_DIR` names.
 
 #![deny(missing_docs)]

@@ -4,7 +4,7 @@
 
 headers=$(cd "$(dirname "${BASH_SOURCE[0]}")/include" && pwd -P)
 kit=${RATTLE_HOME:-$(dirname "$(dirname "$(readlink -f "$(command -v rt || echo /none/bin/rt)")")")}
-toolchain=$kit/on/$(uname -m)/toolchain
+toolchain=$kit/toolchain
 
 # What starts a program: the emulator where the machine needs one, then the kit's loader with the kit's C library.
 emulator=() loader=()

@@ -5,7 +5,7 @@
 
 ghost use Rattle.std.specs.Prelude.{◌≤◌, length};
 
-use written::Form;
+use std::io::{Result, Stdout, Write};
 
 // One byte put at a place of the buffer, if there is room; the place after it.
 fn push(buffer: &mut [u8], at: usize, byte: u8) -> usize
@@ -75,117 +75,129 @@ fn sheet(buffer: &mut [u8]) -> usize
     put(buffer, 0, b"seed=1\nflips=10\nwalks=1\nbias=400\n")
 }
 
-fn show(title: &[u8], input: &[u8]) {
-    io::write_all(1, title);
-    let mut out = [0u8; 20544];
-    let n = running_alone::run_alone(Form::Own, input, &mut out);
-    io::write_all(1, &out[..n]);
+fn show(out: &mut Stdout, title: &[u8], input: &[u8]) -> Result<()> {
+    out.write_all(title)?;
+    let mut report = [0u8; 20544];
+    let n = running_alone::run_alone(input, &mut report);
+    out.write_all(&report[..n])
 }
 
-fn show_front(title: &[u8], buffer: &[u8], n: usize)
+fn show_front(out: &mut Stdout, title: &[u8], buffer: &[u8], n: usize) -> Result<()>
     requires { n ≤ length buffer.now }
 {
-    show(title, &buffer[..n]);
+    show(out, title, &buffer[..n])
 }
 
-fn text(title: &[u8], clauses: &[u8]) {
+fn text(out: &mut Stdout, title: &[u8], clauses: &[u8]) -> Result<()> {
     let mut buffer = [0u8; 65536];
     let at = sheet(&mut buffer);
     let n = put(&mut buffer, at, clauses);
-    show_front(title, &buffer, n);
+    show_front(out, title, &buffer, n)
 }
 
 // One line many times, then a last one.
-fn lines(title: &[u8], line: &[u8], times: usize, last: &[u8]) {
+fn lines(out: &mut Stdout, title: &[u8], line: &[u8], times: usize, last: &[u8]) -> Result<()> {
     let mut buffer = [0u8; 65536];
     let at = sheet(&mut buffer);
     let end = repeat(&mut buffer, at, line, times);
     let n = put(&mut buffer, end, last);
-    show_front(title, &buffer, n);
+    show_front(out, title, &buffer, n)
 }
 
-fn terms(title: &[u8], count: usize) {
+fn terms(out: &mut Stdout, title: &[u8], count: usize) -> Result<()> {
     let mut buffer = [0u8; 65536];
     let at = sheet(&mut buffer);
     let n = name_lines(&mut buffer, at, count);
-    show_front(title, &buffer, n);
+    show_front(out, title, &buffer, n)
 }
 
-fn walks() {
+fn walks(out: &mut Stdout) -> Result<()> {
     text(
+        out,
         b"- lines `a b`, `~a b`: values start 1, 0; only clause 1 uncovered; break counts 1 and 0; b flips; found.\n",
         b"a b\n~a b\n",
-    );
+    )?;
     show(
+        out,
         b"- lines `a`, `~a`, flips 2: gives up, walks 1, flips 2.\n",
         b"seed=1\nflips=2\nwalks=1\nbias=400\na\n~a\n",
-    );
-    text(b"- `a a`: one clause of one literal.\n", b"a a\n");
+    )?;
+    text(out, b"- `a a`: one clause of one literal.\n", b"a a\n")?;
     text(
+        out,
         b"- `a ~a`, `b`: one clause, two terms; found after one flip, answer `a b`.\n",
         b"a ~a\nb\n",
-    );
+    )
 }
 
-fn readings() {
-    text(b"- `~ note` alone: reason 9, line 0.\n", b"~ note\n");
+fn readings(out: &mut Stdout) -> Result<()> {
+    text(out, b"- `~ note` alone: reason 9, line 0.\n", b"~ note\n")?;
     show(
+        out,
         b"- empty text: 9.\n",
         b"seed=1\nflips=10\nwalks=1\nbias=400\n",
-    );
-    text(b"- `abcdefgh` is read.\n", b"abcdefgh\n");
-    text(b"- `abcdefghi` is reason 5, line 1.\n", b"abcdefghi\n");
-    text(b"- `a~b`: 4, line 1.\n", b"a~b\n");
-    text(b"- `a` without byte 10: 3.\n", b"a");
-    text(b"- an empty line alone: 15, line 1.\n", b"\n");
-    text(b"- `a` then an empty line: 15, line 2.\n", b"a\n\n");
+    )?;
+    text(out, b"- `abcdefgh` is read.\n", b"abcdefgh\n")?;
+    text(out, b"- `abcdefghi` is reason 5, line 1.\n", b"abcdefghi\n")?;
+    text(out, b"- `a~b`: 4, line 1.\n", b"a~b\n")?;
+    text(out, b"- `a` without byte 10: 3.\n", b"a")?;
+    text(out, b"- an empty line alone: 15, line 1.\n", b"\n")?;
+    text(out, b"- `a` then an empty line: 15, line 2.\n", b"a\n\n")?;
     text(
+        out,
         b"- `a ~`, a space, then a tab: dropped unread, 9.\n",
         b"a ~ \t\n",
-    );
+    )?;
     text(
+        out,
         b"- `a ~` with the tab directly after ~: reason 4, line 1.\n",
         b"a ~\t\n",
-    );
+    )
 }
 
-fn limits() {
-    terms(b"- 2,048 terms are read.\n", 2048);
-    terms(b"- 2,049 are reason 6.\n", 2049);
+fn limits(out: &mut Stdout) -> Result<()> {
+    terms(out, b"- 2,048 terms are read.\n", 2048)?;
+    terms(out, b"- 2,049 are reason 6.\n", 2049)?;
     lines(
+        out,
         b"- likewise 8,192 clauses are read.\n",
         b"a\n",
         8191,
         b"a\n",
-    );
-    lines(b"- 8,193 are reason 8.\n", b"a\n", 8192, b"a\n");
+    )?;
+    lines(out, b"- 8,193 are reason 8.\n", b"a\n", 8192, b"a\n")?;
     lines(
+        out,
         b"- likewise 16,384 literals are read.\n",
         b"a b\n",
         8191,
         b"a b\n",
-    );
-    lines(b"- 16,385 are reason 7.\n", b"a b\n", 8191, b"a b c\n");
+    )?;
+    lines(out, b"- 16,385 are reason 7.\n", b"a b\n", 8191, b"a b c\n")
 }
 
-fn numbers() {
+fn numbers(out: &mut Stdout) -> Result<()> {
     show(
+        out,
         b"- Seed 0: 11.\n",
         b"seed=0\nflips=10\nwalks=1\nbias=400\na b\n~a b\n",
-    );
+    )?;
     show(
+        out,
         b"- bias 1001: 11.\n",
         b"seed=1\nflips=10\nwalks=1\nbias=1001\na b\n~a b\n",
-    );
+    )?;
     show(
+        out,
         b"- Flips 0 with a covering start: found.\n",
         b"seed=1\nflips=0\nwalks=1\nbias=400\na ~b\n",
-    );
+    )
 }
 
-fn main() {
-    walks();
-    readings();
-    limits();
-    numbers();
+fn main(rt: HostRuntime) -> Result<()> {
+    let out = &mut rt.stdout();
+    walks(out)?;
+    readings(out)?;
+    limits(out)?;
+    numbers(out)
 }

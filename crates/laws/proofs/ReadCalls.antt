@@ -494,7 +494,21 @@ module _ (lim : Limits) (text : List ℕ) (t : Tables) (ms : List ℕ) where
       own (inl h) = inl h
       own (inr (r, z)) =
           let placed = refusal-line lim text e r in
-          inr (record { read = r; which = text-reason lim text e r; some-line = placed.some; last_line_lem = placed.most; no_line = placed.none; zeroed = z })
+          inr (record {
+            lent-full = z.lent-full;
+            read = r;
+            which = text-reason lim text e r;
+            some-line = placed.some;
+            last_line_lem = placed.most;
+            no_line = placed.none;
+            left = z.left;
+            marks = z.marks;
+            in_full-sizes = z.in_full-sizes;
+            beyond = z.beyond;
+            full = z.full;
+            values = z.values;
+            disagrees = z.disagrees;
+          })
 
   -- every text is accepted or refused, and none is both
   pub reading-either : ((n : Counts) × ((reading_of lim text t ms).answer ≡ R.Accepted n)) ⊎ ((e : Fault) × ((reading_of lim text t ms).answer ≡ R.Refused e))

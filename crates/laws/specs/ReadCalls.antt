@@ -65,8 +65,9 @@ pub record Zeroed (lim : Limits) (t : Tables) (ms : List ℕ) (e : Fault) (u : T
   -- no clause stands in such tables, so no counts agree with them, these four neither
   pub disagrees : (m : Counts) → agree_marked lim m u us ≡ false
 
--- so one of our own text
+-- so one of our own text: "tables 0"
 pub record Emptied (lim : Limits) (text : List ℕ) (t : Tables) (ms : List ℕ) (e : Fault) (u : Tables) (us : List ℕ) : Type 0 where
+  pub lent-full : full_marked lim t ms ≡ true
   pub read : read_text lim text ≡ refused e
   -- "A reading tests 1, 2, 3, then the text from the left, then 9."
   pub which : (e.reason ≡ TextTooLong) ⊎ (of_text e.reason ≡ true)
@@ -75,8 +76,17 @@ pub record Emptied (lim : Limits) (text : List ℕ) (t : Tables) (ms : List ℕ)
   pub last_line_lem : e.line ≤ times 10 text
   -- "else 0"
   pub no_line : names_line e.reason ≡ false → e.line ≡ 0
-  -- "tables 0"
-  pub zeroed : Zeroed lim t ms e u us
+  -- '"Tables 0" means the full sizes'
+  pub left : u ≡ cleared lim t
+  pub marks : us ≡ unmarked lim ms
+  pub in_full-sizes : each take (full_sizes lim) u ≡ each (λ n xs. zeros n) (full_sizes lim) t
+  -- "the excess is never read or written"
+  pub beyond : each drop (full_sizes lim) u ≡ each drop (full_sizes lim) t
+  pub full : full_marked lim u us ≡ true
+  -- "all four counts are then 0"
+  pub values : read_values (R.Refused e) ≡ record { result = 0; reason = number_of e.reason; line = e.line; walks = 0; flips = 0; counts = no_counts }
+  -- no clause stands in such tables, so no counts agree with them, these four neither
+  pub disagrees : (m : Counts) → agree_marked lim m u us ≡ false
 
 -- ---- "then the text from the left": where a reading comes by, and what it cannot pass
 

@@ -7,32 +7,28 @@ ghost use Rattle.answers.specs.Answers.{draw_answer};
 use answers::draws::DrawAnswer;
 
 // One draw.
-#[unsafe(no_mangle)]
-pub extern "C" fn ngi_draw(state: u32) -> DrawAnswer
+pub fn ngi_draw(state: u32) -> DrawAnswer
     ensures { result ≡ draw_answer (draw_of state) }
 {
     answers::draws::drawn(state)
 }
 
 // A choice among m, counted from 0.
-#[unsafe(no_mangle)]
-pub extern "C" fn ngi_choice(state: u32, m: u32) -> DrawAnswer
+pub fn ngi_choice(state: u32, m: u32) -> DrawAnswer
     ensures { result ≡ draw_answer (choice_of m state) }
 {
     answers::draws::choice(state, m)
 }
 
 // An even choice among m, counted from 0.
-#[unsafe(no_mangle)]
-pub extern "C" fn ngi_choice_even(state: u32, m: u32) -> DrawAnswer
+pub fn ngi_choice_even(state: u32, m: u32) -> DrawAnswer
     ensures { result ≡ draw_answer (even_of m state) }
 {
     answers::draws::choice_even(state, m)
 }
 
 // 1 for heads, with the bias in thousandths, else 0.
-#[unsafe(no_mangle)]
-pub extern "C" fn ngi_heads(state: u32, bias: u32) -> DrawAnswer
+pub fn ngi_heads(state: u32, bias: u32) -> DrawAnswer
     ensures { result ≡ draw_answer (heads_of bias state) }
 {
     answers::draws::heads(state, bias)

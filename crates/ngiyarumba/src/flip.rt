@@ -9,8 +9,7 @@ use answers::flip::FlipAnswer;
 use written::Counts;
 
 // The terms of the list flipped, in order, or a refusal that changes nothing.
-#[unsafe(no_mangle)]
-pub extern "C" fn ngi_flip(
+pub fn ngi_flip(
     list: &[u16],
     terms: u32,
     clauses: u32,

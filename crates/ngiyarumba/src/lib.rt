@@ -1,4 +1,5 @@
-// The boundary: the library's calls under C names, with numbers, slices and plain structs. Thin: each call hands on what `answers` makes of its answer.
+// The boundary: the library's calls, with numbers, slices and plain structs. Thin: each call hands on what `answers` makes of its answer. `ngiyarumba_c` has
+// them under C names.
 
 #![tactic(auto)]
 

@@ -9,8 +9,7 @@ use answers::read::ReadAnswer;
 use written::Form;
 
 // The same of numbered text: variable v is term v less 1, and its name is v in decimal.
-#[unsafe(no_mangle)]
-pub extern "C" fn ngi_read_numbered(
+pub fn ngi_read_numbered(
     text: &[u8],
     names: &mut [u64],
     values: &mut [u32],
@@ -33,7 +32,7 @@ pub extern "C" fn ngi_read_numbered(
         uncovered_list.old places.old)
         marks.old) }
 {
-    let answer = reading::read(
+    let answer = reading::read_as(
         Form::Numbered,
         text,
         names,

@@ -9,8 +9,7 @@ use answers::flip::FlipAnswer;
 use written::Counts;
 
 // The term marked, at 0 for the value 0 and else at 1, and flipped if its value differs; or a refusal that changes nothing.
-#[unsafe(no_mangle)]
-pub extern "C" fn ngi_pin(
+pub fn ngi_pin(
     term: u32,
     value: u32,
     terms: u32,
@@ -64,8 +63,7 @@ pub extern "C" fn ngi_pin(
 }
 
 // The term's mark cleared, and nothing else; or a refusal that changes nothing.
-#[unsafe(no_mangle)]
-pub extern "C" fn ngi_lift(
+pub fn ngi_lift(
     term: u32,
     terms: u32,
     clauses: u32,

@@ -6,11 +6,9 @@ ghost use Rattle.written.specs.Outcomes.{leaves, told, reading_of};
 ghost use Rattle.answers.specs.Answers.{read_answer};
 
 use answers::read::ReadAnswer;
-use written::Form;
 
 // Clause text read into the tables, or refused: reason 1 changes nothing, any other leaves the full sizes 0. No term is marked then.
-#[unsafe(no_mangle)]
-pub extern "C" fn ngi_read(
+pub fn ngi_read(
     text: &[u8],
     names: &mut [u64],
     values: &mut [u32],
@@ -34,7 +32,6 @@ pub extern "C" fn ngi_read(
         marks.old) }
 {
     let answer = reading::read(
-        Form::Own,
         text,
         names,
         values,

@@ -5,11 +5,10 @@ ghost use Rattle.written.specs.Lending.{lent_before, lent_after};
 ghost use Rattle.written.specs.Program.{run_of};
 ghost use Rattle.running_text.specs.Running.{answered};
 
-use written::{Form, RunAnswer};
+use written::RunAnswer;
 
 // What the program prints for the input stands first in `out`. Result 1 tells so, with its length; 0 that a table or `out` is too short (reason 1).
-#[unsafe(no_mangle)]
-pub extern "C" fn ngi_run(
+pub fn ngi_run(
     input: &[u8],
     names: &mut [u64],
     values: &mut [u32],
@@ -34,7 +33,6 @@ pub extern "C" fn ngi_run(
         marks.old out.old }
 {
     running::run_sheet(
-        Form::Own,
         input,
         names,
         values,

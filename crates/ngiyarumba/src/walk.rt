@@ -9,8 +9,7 @@ use answers::walk::WalkAnswer;
 use written::{Counts, Order};
 
 // The walks of an order, or a refusal that changes nothing.
-#[unsafe(no_mangle)]
-pub extern "C" fn ngi_walk(
+pub fn ngi_walk(
     seed: u32,
     flips: u32,
     walks: u32,

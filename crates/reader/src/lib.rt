@@ -63,32 +63,28 @@ pub fn token_at(text: &[u8], at: usize, line: usize) -> Step
 }
 
 // The same in numbers, for C: the token's kind, reason and line, and where reading goes on.
-#[unsafe(no_mangle)]
-pub extern "C" fn reader_token(text: &[u8], at: usize, line: usize) -> Told
+pub fn reader_token(text: &[u8], at: usize, line: usize) -> Told
     ensures { result ≡ told_of (scan text.now (cursor_at at line)) }
 {
     scan::in_numbers(token_at(text, at, line))
 }
 
 // Where a reader that is told to pass goes on.
-#[unsafe(no_mangle)]
-pub extern "C" fn reader_line_end(text: &[u8], at: usize) -> usize
+pub fn reader_line_end(text: &[u8], at: usize) -> usize
     ensures { result ≡ rest_at text.now at }
 {
     scan::line_end(text, at)
 }
 
 // Both by the scanner's cursor.
-#[unsafe(no_mangle)]
-pub extern "C" fn cursor_token(text: &[u8], at: usize, line: usize) -> Told
+pub fn cursor_token(text: &[u8], at: usize, line: usize) -> Told
     ensures { result ≡ told_of (scan text.now (cursor_at at line)) }
 {
     let c = Cursor { at, line };
     scan::in_numbers(c.next(text))
 }
 
-#[unsafe(no_mangle)]
-pub extern "C" fn cursor_pass(text: &[u8], at: usize, line: usize) -> usize
+pub fn cursor_pass(text: &[u8], at: usize, line: usize) -> usize
     ensures { result ≡ (passed text.now (cursor_at at line)).at }
 {
     let c = Cursor { at, line };

@@ -4,10 +4,11 @@
 
 ghost use Rattle.std.specs.Prelude.{◌≡◌, true, []};
 ghost use Rattle.written.specs.Limits.{narrow};
+ghost use Rattle.written.specs.Reading.{read_text};
 ghost use Rattle.written.specs.Numbered.{read_as};
 ghost use Rattle.written.specs.Lending.{lent_at, lent_before, lent_after};
 ghost use Rattle.written.specs.Tables.{are_full};
-ghost use Rattle.written.specs.Outcomes.{leaves, ten, ten_of, read_leaves, read_into};
+ghost use Rattle.written.specs.Outcomes.{leaves, ten, ten_of, read_leaves, read_into, reading_of};
 ghost use Rattle.reading_end.specs.Bare.{Bare};
 
 use reading_lines::Ended;
@@ -69,7 +70,7 @@ fn read_cleared(
 }
 
 // A text read into full tables, or a refusal that leaves them 0.
-pub fn read_full(
+pub fn read_full_as(
     form: Form,
     text: &[u8],
     names: &mut [u64],
@@ -109,8 +110,46 @@ pub fn read_full(
     )
 }
 
+// The same of our own text.
+pub fn read_full(
+    text: &[u8],
+    names: &mut [u64],
+    values: &mut [u32],
+    starts: &mut [u16],
+    literals: &mut [u16],
+    occurrence_starts: &mut [u16],
+    occurrences: &mut [u16],
+    trues: &mut [u16],
+    breaks: &mut [u16],
+    uncovered: &mut [u16],
+    places: &mut [u16],
+) -> Read
+    requires { are_full narrow (lent_at names.old values.old starts.old literals.old occurrence_starts.old occurrences.old trues.old breaks.old
+        uncovered.old places.old) ≡ true }
+    ensures { ten result (lent_after names.new values.new starts.new literals.new occurrence_starts.new occurrences.new trues.new breaks.new
+        uncovered.new places.new)
+        ≡ ten_of (read_leaves narrow (lent_before names.old values.old starts.old literals.old occurrence_starts.old occurrences.old trues.old
+        breaks.old uncovered.old places.old)
+        [] (read_text narrow text.now)) }
+{
+    read_full_as(
+        Form::Own,
+        text,
+        names,
+        values,
+        starts,
+        literals,
+        occurrence_starts,
+        occurrences,
+        trues,
+        breaks,
+        uncovered,
+        places,
+    )
+}
+
 // A reading of a text into the lent tables, or a refusal that leaves them 0; no term is marked then. Where one is too short, nothing changes.
-pub fn read(
+pub fn read_as(
     form: Form,
     text: &[u8],
     names: &mut [u64],
@@ -150,7 +189,7 @@ pub fn read(
         });
     }
     tables::clear_bytes(marks, 2048);
-    read_full(
+    read_full_as(
         form,
         text,
         names,
@@ -163,5 +202,43 @@ pub fn read(
         breaks,
         uncovered,
         places,
+    )
+}
+
+// The same of our own text: clause text.
+pub fn read(
+    text: &[u8],
+    names: &mut [u64],
+    values: &mut [u32],
+    starts: &mut [u16],
+    literals: &mut [u16],
+    occurrence_starts: &mut [u16],
+    occurrences: &mut [u16],
+    trues: &mut [u16],
+    breaks: &mut [u16],
+    uncovered: &mut [u16],
+    places: &mut [u16],
+    marks: &mut [u8],
+) -> Read
+    ensures { leaves result (lent_after names.new values.new starts.new literals.new occurrence_starts.new occurrences.new trues.new breaks.new
+        uncovered.new places.new) marks.new
+        ≡ reading_of narrow text.now
+        (lent_before names.old values.old starts.old literals.old occurrence_starts.old occurrences.old trues.old breaks.old uncovered.old places.old)
+        marks.old }
+{
+    read_as(
+        Form::Own,
+        text,
+        names,
+        values,
+        starts,
+        literals,
+        occurrence_starts,
+        occurrences,
+        trues,
+        breaks,
+        uncovered,
+        places,
+        marks,
     )
 }

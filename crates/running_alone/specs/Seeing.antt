@@ -1,8 +1,9 @@
 -- A program sees its input through a buffer: what it must see, and what it then shows. Assumes nothing.
 use Rattle.std.specs.Prelude.{ℕ, ◌≤◌, ◌<◌, ◌≡◌, Bool, false, cond, ◌||◌, List, [], ℤ, pos, negsuc, length, take, eqb, ltb}
 use Rattle.written.specs.declared.Form.{Form}
+use Rattle.written.specs.declared.Form.TheVariants.{Own}
 use Rattle.written.specs.Limits.{Limits}
-use Rattle.written.specs.Program.{printed, printed_as, report_size}
+use Rattle.written.specs.Program.{printed_as, report_size}
 
 -- n bytes of a buffer in which one more than an input may have has room, and room for any report
 pub record CanSee (lim : Limits) (n : ℕ) (buffer out : List ℕ) : Type 0 where
@@ -30,4 +31,4 @@ shown_as form lim n last buffer = cond (seen_whole lim n last) (printed_as form 
 
 -- of our own text
 abbrev pub shown_of : Limits → ℕ → ℤ → List ℕ → List ℕ
-shown_of lim n last buffer = cond (seen_whole lim n last) (printed lim (take n buffer)) []
+shown_of lim n last buffer = shown_as Own lim n last buffer

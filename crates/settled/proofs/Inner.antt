@@ -57,6 +57,7 @@ use Rattle.walking.specs.contracts.walk_tested as walk-tested
 use Rattle.reading_end.specs.contracts.verdict as verdict
 use Rattle.flipping_lists.specs.contracts.flip_agreeing as flip-agreeing
 use Rattle.reading.specs.contracts.read_full as read-full
+use Rattle.reading.specs.contracts.read_full_as as read-full-as
 use Rattle.reading_end.specs.contracts.clear_draft as clear-draft
 use Rattle.reading_end.specs.contracts.clear_others as clear-others
 use Rattle.reading_end.specs.contracts.finish as finish
@@ -77,83 +78,86 @@ use Rattle.running_values.specs.contracts.report as values-report
 use Rattle.running_forms.specs.contracts.refusal as form-refusal
 use Rattle.running_forms.specs.contracts.report as form-report
 use Rattle.running_text.specs.contracts.read_on as read-on
+use Rattle.running_text.specs.contracts.read_on_as as read-on-as
 use Rattle.running_alone.specs.contracts.run_alone as run_alone
+use Rattle.running_alone.specs.contracts.run_alone_as as run_alone-as
 use Rattle.running_alone.specs.contracts.run_read as run-read
+use Rattle.running_alone.specs.contracts.run_read_as as run-read-as
 
-pub true-count-settled : Public true-count.ended (λ M. true-count.clauses)
+pub true-count-settled : Public true-count.ended (λ M 𝓤. true-count.clauses)
 true-count-settled M 𝓤 𝓛 mem run κs a g = record { asks_nothing = refl; one-outcome = λ x y. both 𝓤 (λ p q. same (meet p q) refl) }
 
-pub xor_true-settled : Public xor-true.ended (λ M. xor-true.clauses)
+pub xor_true-settled : Public xor-true.ended (λ M 𝓤. xor-true.clauses)
 xor_true-settled M 𝓤 𝓛 mem run κs a g = record { asks_nothing = refl; one-outcome = λ x y. both 𝓤 (λ p q. same (meet p q) refl) }
 
-pub one-for-settled : Public one-for.ended (λ M. one-for.clauses)
+pub one-for-settled : Public one-for.ended (λ M 𝓤. one-for.clauses)
 one-for-settled M 𝓤 𝓛 mem run κs a g = record { asks_nothing = refl; one-outcome = λ x y. both 𝓤 (λ p q. same (meet p q) refl) }
 
-pub clear-settled : Public clear.ended (λ M. clear.clauses)
+pub clear-settled : Public clear.ended (λ M 𝓤. clear.clauses)
 clear-settled M 𝓤 𝓛 mem run κs a g = record { asks_nothing = refl; one-outcome = λ x y. both 𝓤 (λ p q. same refl (ap (λ xs. (xs, (tt, tt))) (meet p q))) }
 
-pub clear-words-settled : Public clear-words.ended (λ M. clear-words.clauses)
+pub clear-words-settled : Public clear-words.ended (λ M 𝓤. clear-words.clauses)
 clear-words-settled M 𝓤 𝓛 mem run κs a g = record { asks_nothing = refl; one-outcome = λ x y. both 𝓤 (λ p q. same refl (ap (λ xs. (xs, (tt, tt))) (meet p q))) }
 
-pub clear-names-settled : Public clear-names.ended (λ M. clear-names.clauses)
+pub clear-names-settled : Public clear-names.ended (λ M 𝓤. clear-names.clauses)
 clear-names-settled M 𝓤 𝓛 mem run κs a g = record { asks_nothing = refl; one-outcome = λ x y. both 𝓤 (λ p q. same refl (ap (λ xs. (xs, (tt, tt))) (meet p q))) }
 
-pub clear-bytes-settled : Public clear-bytes.ended (λ M. clear-bytes.clauses)
+pub clear-bytes-settled : Public clear-bytes.ended (λ M 𝓤. clear-bytes.clauses)
 clear-bytes-settled M 𝓤 𝓛 mem run κs a g = record { asks_nothing = refl; one-outcome = λ x y. both 𝓤 (λ p q. same refl (ap (λ xs. (xs, (tt, tt))) (meet p q))) }
 
-pub raise-settled : Inner raise.ended (λ M. raise.clauses)
+pub raise-settled : Inner raise.ended (λ M 𝓤. raise.clauses)
 raise-settled M 𝓤 𝓛 mem run κs a g = record { one-outcome = λ x y. all_three 𝓤 (λ r p q. same refl (ap (λ xs. (xs, (tt, tt))) (meet p q))) }
 
-pub enter-settled : Inner enter.ended (λ M. enter.clauses)
+pub enter-settled : Inner enter.ended (λ M 𝓤. enter.clauses)
 enter-settled M 𝓤 𝓛 mem run κs a g = record { one-outcome = λ x y. all_three 𝓤 (λ r p q. let e = meet p q in same (ap (λ u. u.number) e) (ap (λ (u : Uncovered). (u.list, (u.places, (tt, (tt, tt))))) e)) }
 
-pub turn-round-settled : Inner turn-round.ended (λ M. turn-round.clauses)
+pub turn-round-settled : Inner turn-round.ended (λ M 𝓤. turn-round.clauses)
 turn-round-settled M 𝓤 𝓛 mem run κs a g = record { one-outcome = λ x y. all_three 𝓤 (λ r p q. same refl (λ i. (tt, (tt, (tt, (meet p.0 q.0 i, (meet p.1 q.1 i, (meet p.2 q.2 i, tt)))))))) }
 
-pub open_all-settled : Inner open-all.ended (λ M. open-all.clauses)
+pub open_all-settled : Inner open-all.ended (λ M 𝓤. open-all.clauses)
 open_all-settled M 𝓤 𝓛 mem run κs a g = record { one-outcome = λ x y. all_three 𝓤 (λ r p q. same refl (ap (λ xs. (tt, (tt, (tt, (tt, (tt, (xs, tt))))))) (meet p q))) }
 
-pub close_all-settled : Inner close-all.ended (λ M. close-all.clauses)
+pub close_all-settled : Inner close-all.ended (λ M 𝓤. close-all.clauses)
 close_all-settled M 𝓤 𝓛 mem run κs a g = record { one-outcome = λ x y. all_three 𝓤 (λ r p q. same refl (ap (λ xs. (tt, (tt, (xs, tt)))) (meet p q))) }
 
-pub count-afresh-settled : Inner count-afresh.ended (λ M. count-afresh.clauses)
+pub count-afresh-settled : Inner count-afresh.ended (λ M 𝓤. count-afresh.clauses)
 count-afresh-settled M 𝓤 𝓛 mem run κs a g = record { one-outcome = λ x y. all_three 𝓤 (λ r p q. let e = meet p q in same (ap (λ t. t.uncovered.number) e) (ap (λ (t : Tallies). (tt, (tt, (tt, (tt, (tt, (t.trues, (t.breaks, (t.uncovered.list, (t.uncovered.places, tt)))))))))) e)) }
 
-pub clauses-hold-settled : Inner clauses-hold.ended (λ M. clauses-hold.clauses)
+pub clauses-hold-settled : Inner clauses-hold.ended (λ M 𝓤. clauses-hold.clauses)
 clauses-hold-settled M 𝓤 𝓛 mem run κs a g = record { one-outcome = λ x y. all_three 𝓤 (λ r p q. same (meet p q) refl) }
 
-pub counts-agree-settled : Inner counts-agree.ended (λ M. counts-agree.clauses)
+pub counts-agree-settled : Inner counts-agree.ended (λ M 𝓤. counts-agree.clauses)
 counts-agree-settled M 𝓤 𝓛 mem run κs a g = record { one-outcome = λ x y. all_three 𝓤 (λ r p q. same (meet p q) refl) }
 
-pub rests-agree-settled : Inner rests-agree.ended (λ M. rests-agree.clauses)
+pub rests-agree-settled : Inner rests-agree.ended (λ M 𝓤. rests-agree.clauses)
 rests-agree-settled M 𝓤 𝓛 mem run κs a g = record { one-outcome = λ x y. all_three 𝓤 (λ r p q. same (meet p q) refl) }
 
-pub add-settled : Inner add.ended (λ M. add.clauses)
+pub add-settled : Inner add.ended (λ M 𝓤. add.clauses)
 add-settled M 𝓤 𝓛 mem run κs a g = record { one-outcome = λ x y. all_three 𝓤 (λ r p q. same refl (λ i. (meet p.0 q.0 i, (meet p.1 q.1 i, (tt, (tt, (tt, tt))))))) }
 
-pub place-settled : Inner place.ended (λ M. place.clauses)
+pub place-settled : Inner place.ended (λ M 𝓤. place.clauses)
 place-settled M 𝓤 𝓛 mem run κs a g = record { one-outcome = λ x y. all_three 𝓤 (λ r p q. let e = meet p q in same (ap (λ (z : Placed). z.answer) e) (ap (λ (z : Placed). (z.literals, (z.stamps, (tt, (tt, (tt, (tt, tt))))))) e)) }
 
-pub refused-settled : Inner refused.ended (λ M. refused.clauses)
+pub refused-settled : Inner refused.ended (λ M 𝓤. refused.clauses)
 refused-settled M 𝓤 𝓛 mem run κs a g = record { one-outcome = λ x y. all_three 𝓤 (λ r p q. same (meet p q) refl) }
 
-pub after-literal-settled : Inner after-literal.ended (λ M. after-literal.clauses)
+pub after-literal-settled : Inner after-literal.ended (λ M 𝓤. after-literal.clauses)
 after-literal-settled M 𝓤 𝓛 mem run κs a g = record { one-outcome = λ x y. all_three 𝓤 (λ r p q. same (meet p q) refl) }
 
-pub at-line-end-settled : Inner at-line-end.ended (λ M. at-line-end.clauses)
+pub at-line-end-settled : Inner at-line-end.ended (λ M 𝓤. at-line-end.clauses)
 at-line-end-settled M 𝓤 𝓛 mem run κs a g = record { one-outcome = λ x y. all_three 𝓤 (λ r p q. let e = meet p q in same (ap (λ (z : LineEnd). z.next) e) (ap (λ (z : LineEnd). (z.starts, (tt, (tt, tt)))) e)) }
 
-pub at-text-end-settled : Public at-text-end.ended (λ M. at-text-end.clauses)
+pub at-text-end-settled : Public at-text-end.ended (λ M 𝓤. at-text-end.clauses)
 at-text-end-settled M 𝓤 𝓛 mem run κs a g = record { asks_nothing = refl; one-outcome = λ x y. both 𝓤 (λ p q. same (meet p q) refl) }
 
 -- what is left behind the tables of the counts, before what follows them
 abbrev counted : {R : Type 0} → Moving → R → List ℕ × (List ℕ × (List ℕ × (List ℕ × R)))
 counted m r = (m.tallies.trues, (m.tallies.breaks, (m.tallies.uncovered.list, (m.tallies.uncovered.places, r))))
 
-pub flip-term-settled : Inner flip-term.ended (λ M. flip-term.clauses)
+pub flip-term-settled : Inner flip-term.ended (λ M 𝓤. flip-term.clauses)
 flip-term-settled M 𝓤 𝓛 mem run κs a g = record { one-outcome = λ x y. all_three 𝓤 (λ r p q. let e = meet p q in same (ap (λ m. m.tallies.uncovered.number) e) (ap (λ (m : Moving). (m.words, (tt, (tt, counted m (tt, (tt, tt)))))) e)) }
 
-pub flip-all-settled : Inner flip-all.ended (λ M. flip-all.clauses)
+pub flip-all-settled : Inner flip-all.ended (λ M 𝓤. flip-all.clauses)
 flip-all-settled M 𝓤 𝓛 mem run κs a g = record { one-outcome = λ x y. all_three 𝓤 (λ r p q. let e = meet p q in same (ap (λ m. m.tallies.uncovered.number) e) (ap (λ (m : Moving). (tt, (m.words, (tt, (tt, counted m (tt, tt)))))) e)) }
 
 -- the counts of an answer
@@ -161,7 +165,7 @@ abbrev counts_of : Flipped → Counts
 counts_of (F.Applied n) = n
 counts_of (F.Refused e) = e.counts
 
-pub flip_agreeing_settled : Inner flip-agreeing.ended (λ M. flip-agreeing.clauses)
+pub flip_agreeing_settled : Inner flip-agreeing.ended (λ M 𝓤. flip-agreeing.clauses)
 flip_agreeing_settled M 𝓤 𝓛 mem run κs a g =
     record {
       one-outcome = λ x y. all_three 𝓤
@@ -175,31 +179,31 @@ handed p = record { entry = p.picked; next = record { state = p.state } }
 abbrev standing : Stand → At
 standing v = record { number = uncovered_number v; generator = record { state = v.generator }; flips = v.flips }
 
-pub chosen-from-settled : Inner chosen-from.ended (λ M. chosen-from.clauses)
+pub chosen-from-settled : Inner chosen-from.ended (λ M 𝓤. chosen-from.clauses)
 chosen-from-settled M 𝓤 𝓛 mem run κs a g = record { one-outcome = λ x y. all_three 𝓤 (λ r p q. same (ap handed (meet p q)) refl) }
 
-pub least_in_settled : Inner least-in.ended (λ M. least-in.clauses)
+pub least_in_settled : Inner least-in.ended (λ M 𝓤. least-in.clauses)
 least_in_settled M 𝓤 𝓛 mem run κs a g = record { one-outcome = λ x y. all_three 𝓤 (λ r p q. same (ap (λ (s : Lowest). record { low = s.low; number = s.number; first = s.first }) (meet p q)) refl) }
 
-pub literal_in_settled : Inner literal_in_lem.ended (λ M. literal_in_lem.clauses)
+pub literal_in_settled : Inner literal_in_lem.ended (λ M 𝓤. literal_in_lem.clauses)
 literal_in_settled M 𝓤 𝓛 mem run κs a g = record { one-outcome = λ x y. all_three 𝓤 (λ r p q. same (ap handed (meet p q)) refl) }
 
-pub one-walk-settled : Inner one-walk.ended (λ M. one-walk.clauses)
+pub one-walk-settled : Inner one-walk.ended (λ M 𝓤. one-walk.clauses)
 one-walk-settled M 𝓤 𝓛 mem run κs a g = record { one-outcome = λ x y. all_three 𝓤 (λ r p q. let e = meet p q in same (ap standing e) (ap (λ (v : Stand). (tt, (tt, (v.tables.words, (tt, (tt, (tt, (tt, counted v.tables (tt, (tt, tt)))))))))) e)) }
 
-pub walk-tested-settled : Inner walk-tested.ended (λ M. walk-tested.clauses)
+pub walk-tested-settled : Inner walk-tested.ended (λ M 𝓤. walk-tested.clauses)
 walk-tested-settled M 𝓤 𝓛 mem run κs a g = record { one-outcome = λ x y. all_three 𝓤 (λ r p q. let e = meet p q in same (the_answer e) (ap (λ l. (tt, (tt, five l.tables (tt, tt)))) e)) }
 
-pub verdict-settled : Public verdict.ended (λ M. verdict.clauses)
+pub verdict-settled : Public verdict.ended (λ M 𝓤. verdict.clauses)
 verdict-settled M 𝓤 𝓛 mem run κs a g = record { asks_nothing = refl; one-outcome = λ x y. both 𝓤 (λ p q. same (meet p q) refl) }
 
-pub clear-draft-settled : Public clear-draft.ended (λ M. clear-draft.clauses)
+pub clear-draft-settled : Public clear-draft.ended (λ M 𝓤. clear-draft.clauses)
 clear-draft-settled M 𝓤 𝓛 mem run κs a g = record { asks_nothing = refl; one-outcome = λ x y. both 𝓤 (λ p q. same refl (ap (λ (w : Desk). (w.names, (w.starts, (w.literals, (w.stamps, (w.slots, tt)))))) (meet p q))) }
 
-pub clear-others-settled : Public clear-others.ended (λ M. clear-others.clauses)
+pub clear-others-settled : Public clear-others.ended (λ M 𝓤. clear-others.clauses)
 clear-others-settled M 𝓤 𝓛 mem run κs a g = record { asks_nothing = refl; one-outcome = λ x y. both 𝓤 (λ p q. same refl (ap (λ (w : Others). (w.values, (w.occurrence_starts, (w.occurrences, (w.trues, (w.uncovered, tt)))))) (meet p q))) }
 
-pub finish-settled : Inner finish.ended (λ M. finish.clauses)
+pub finish-settled : Inner finish.ended (λ M 𝓤. finish.clauses)
 finish-settled M 𝓤 𝓛 mem run κs a g =
     record {
       one-outcome = λ x y. all_three 𝓤
@@ -208,63 +212,76 @@ finish-settled M 𝓤 𝓛 mem run κs a g =
           (ap (λ (w : Finished). (tt, (tt, (tt, (w.clauses.literals, (w.clauses.occurrence_starts, (w.clauses.occurrences, counted w.moved tt))))))) e));
     }
 
-pub put-byte-settled : Inner put_byte.ended (λ M. put_byte.clauses)
+pub put-byte-settled : Inner put_byte.ended (λ M 𝓤. put_byte.clauses)
 put-byte-settled M 𝓤 𝓛 mem run κs a g = record { one-outcome = λ x y. all_three 𝓤 (λ r p q. let e = meet p q in same (ap (λ s. s.at) e) (ap (λ (s : Page). (s.buffer, (tt, (tt, tt)))) e)) }
 
-pub put-all-settled : Inner put_all_lem.ended (λ M. put_all_lem.clauses)
+pub put-all-settled : Inner put_all_lem.ended (λ M 𝓤. put_all_lem.clauses)
 put-all-settled M 𝓤 𝓛 mem run κs a g = record { one-outcome = λ x y. all_three 𝓤 (λ r p q. let e = meet p q in same (ap (λ s. s.at) e) (ap (λ (s : Page). (s.buffer, (tt, (tt, tt)))) e)) }
 
-pub put-number-settled : Inner put-number.ended (λ M. put-number.clauses)
+pub put-number-settled : Inner put-number.ended (λ M 𝓤. put-number.clauses)
 put-number-settled M 𝓤 𝓛 mem run κs a g = record { one-outcome = λ x y. all_three 𝓤 (λ r p q. let e = meet p q in same (ap (λ s. s.at) e) (ap (λ (s : Page). (s.buffer, (tt, (tt, tt)))) e)) }
 
-pub put-name-settled : Inner put-name.ended (λ M. put-name.clauses)
+pub put-name-settled : Inner put-name.ended (λ M 𝓤. put-name.clauses)
 put-name-settled M 𝓤 𝓛 mem run κs a g = record { one-outcome = λ x y. all_three 𝓤 (λ r p q. let e = meet p q in same (ap (λ s. s.at) e) (ap (λ (s : Page). (s.buffer, (tt, (tt, tt)))) e)) }
 
-pub put-term-settled : Inner put-term.ended (λ M. put-term.clauses)
+pub put-term-settled : Inner put-term.ended (λ M 𝓤. put-term.clauses)
 put-term-settled M 𝓤 𝓛 mem run κs a g = record { one-outcome = λ x y. all_three 𝓤 (λ r p q. let e = meet p q in same (ap (λ s. s.at) e) (ap (λ (s : Page). (s.buffer, (tt, (tt, (tt, tt))))) e)) }
 
-pub put-line-settled : Inner put-line.ended (λ M. put-line.clauses)
+pub put-line-settled : Inner put-line.ended (λ M 𝓤. put-line.clauses)
 put-line-settled M 𝓤 𝓛 mem run κs a g = record { one-outcome = λ x y. all_three 𝓤 (λ r p q. let e = meet p q in same (ap (λ s. s.at) e) (ap (λ (s : Page). (s.buffer, (tt, (tt, (tt, tt))))) e)) }
 
-pub past-comments-settled : Inner past-comments.ended (λ M. past-comments.clauses)
+pub past-comments-settled : Inner past-comments.ended (λ M 𝓤. past-comments.clauses)
 past-comments-settled M 𝓤 𝓛 mem run κs a g = record { one-outcome = λ x y. all_three 𝓤 (λ r p q. same (meet p q) refl) }
 
-pub header-at-settled : Inner header_at.ended (λ M. header_at.clauses)
+pub header-at-settled : Inner header_at.ended (λ M 𝓤. header_at.clauses)
 header-at-settled M 𝓤 𝓛 mem run κs a g = record { one-outcome = λ x y. all_three 𝓤 (λ r p q. same (meet p q) refl) }
 
-pub number-at-settled : Inner number_at.ended (λ M. number_at.clauses)
+pub number-at-settled : Inner number_at.ended (λ M 𝓤. number_at.clauses)
 number-at-settled M 𝓤 𝓛 mem run κs a g = record { one-outcome = λ x y. all_three 𝓤 (λ r p q. same (meet p q) refl) }
 
-pub value-settled : Inner value.ended (λ M. value.clauses)
+pub value-settled : Inner value.ended (λ M 𝓤. value.clauses)
 value-settled M 𝓤 𝓛 mem run κs a g = record { one-outcome = λ x y. all_three 𝓤 (λ r p q. same (meet p q) refl) }
 
-pub refusal-settled : Inner refusal.ended (λ M. refusal.clauses)
+pub refusal-settled : Inner refusal.ended (λ M 𝓤. refusal.clauses)
 refusal-settled M 𝓤 𝓛 mem run κs a g = record { one-outcome = λ x y. all_three 𝓤 (λ r p q. let e = meet p q in same (ap (λ s. s.at) e) (ap (λ (s : Page). (s.buffer, (tt, tt))) e)) }
 
-pub report-settled : Inner report.ended (λ M. report.clauses)
+pub report-settled : Inner report.ended (λ M 𝓤. report.clauses)
 report-settled M 𝓤 𝓛 mem run κs a g = record { one-outcome = λ x y. all_three 𝓤 (λ r p q. let e = meet p q in same (ap (λ s. s.at) e) (ap (λ (s : Page). (s.buffer, (tt, (tt, (tt, tt))))) e)) }
 
-pub values-refusal-settled : Inner values-refusal.ended (λ M. values-refusal.clauses)
+pub values-refusal-settled : Inner values-refusal.ended (λ M 𝓤. values-refusal.clauses)
 values-refusal-settled M 𝓤 𝓛 mem run κs a g = record { one-outcome = λ x y. all_three 𝓤 (λ r p q. let e = meet p q in same (ap (λ s. s.at) e) (ap (λ (s : Page). (s.buffer, (tt, tt))) e)) }
 
-pub values-report-settled : Inner values-report.ended (λ M. values-report.clauses)
+pub values-report-settled : Inner values-report.ended (λ M 𝓤. values-report.clauses)
 values-report-settled M 𝓤 𝓛 mem run κs a g = record { one-outcome = λ x y. all_three 𝓤 (λ r p q. let e = meet p q in same (ap (λ s. s.at) e) (ap (λ (s : Page). (s.buffer, (tt, (tt, tt)))) e)) }
 
-pub form-refusal-settled : Inner form-refusal.ended (λ M. form-refusal.clauses)
+pub form-refusal-settled : Inner form-refusal.ended (λ M 𝓤. form-refusal.clauses)
 form-refusal-settled M 𝓤 𝓛 mem run κs a g = record { one-outcome = λ x y. all_three 𝓤 (λ r p q. let e = meet p q in same (ap (λ s. s.at) e) (ap (λ (s : Page). (tt, (s.buffer, (tt, tt)))) e)) }
 
-pub form-report-settled : Inner form-report.ended (λ M. form-report.clauses)
+pub form-report-settled : Inner form-report.ended (λ M 𝓤. form-report.clauses)
 form-report-settled M 𝓤 𝓛 mem run κs a g = record { one-outcome = λ x y. all_three 𝓤 (λ r p q. let e = meet p q in same (ap (λ s. s.at) e) (ap (λ (s : Page). (tt, (s.buffer, (tt, (tt, (tt, tt)))))) e)) }
 
-pub read-full-settled : Inner read-full.ended (λ M. read-full.clauses)
+pub read-full-settled : Inner read-full.ended (λ M 𝓤. read-full.clauses)
 read-full-settled M 𝓤 𝓛 mem run κs a g =
+    record { one-outcome = λ x y. all_three 𝓤 (λ r p q. let e = meet p q in same (ap (λ (l : Ten Read). l.answer) e) (ap (λ (l : Ten Read). (tt, ten l.tables tt)) e)) }
+
+pub read-full-as-settled : Inner read-full-as.ended (λ M 𝓤. read-full-as.clauses)
+read-full-as-settled M 𝓤 𝓛 mem run κs a g =
     record { one-outcome = λ x y. all_three 𝓤 (λ r p q. let e = meet p q in same (ap (λ (l : Ten Read). l.answer) e) (ap (λ (l : Ten Read). (tt, (tt, ten l.tables tt))) e)) }
 
-pub read-on-settled : Inner read-on.ended (λ M. read-on.clauses)
-read-on-settled M 𝓤 𝓛 mem run κs a g = record { one-outcome = λ x y. all_three 𝓤 (λ r p q. let e = meet p q in same (ap (λ (w : Ran). w.answer.length) e) (ap (λ (w : Ran). (tt, (tt, (tt, ten w.tables (tt, (w.buffer, tt)))))) e)) }
+pub read-on-settled : Inner read-on.ended (λ M 𝓤. read-on.clauses)
+read-on-settled M 𝓤 𝓛 mem run κs a g = record { one-outcome = λ x y. all_three 𝓤 (λ r p q. let e = meet p q in same (ap (λ (w : Ran). w.answer.length) e) (ap (λ (w : Ran). (tt, (tt, ten w.tables (tt, (w.buffer, tt))))) e)) }
 
-pub run-alone-settled : Inner run_alone.ended (λ M. run_alone.clauses)
-run-alone-settled M 𝓤 𝓛 mem run κs a g = record { one-outcome = λ x y. all_three 𝓤 (λ r p q. let e = meet p.0 q.0 in same (ap (λ s. s.at) e) (ap (λ (s : Page). (tt, (tt, (s.buffer, tt)))) e)) }
+pub read-on-as-settled : Inner read-on-as.ended (λ M 𝓤. read-on-as.clauses)
+read-on-as-settled M 𝓤 𝓛 mem run κs a g = record { one-outcome = λ x y. all_three 𝓤 (λ r p q. let e = meet p q in same (ap (λ (w : Ran). w.answer.length) e) (ap (λ (w : Ran). (tt, (tt, (tt, ten w.tables (tt, (w.buffer, tt)))))) e)) }
 
-pub run-read-settled : Inner run-read.ended (λ M. run-read.clauses)
-run-read-settled M 𝓤 𝓛 mem run κs a g = record { one-outcome = λ x y. all_three 𝓤 (λ r p q. let e = meet p.0 q.0 in same (ap (λ s. s.at) e) (ap (λ (s : Page). (tt, (tt, (tt, (tt, (s.buffer, tt)))))) e)) }
+pub run-alone-settled : Inner run_alone.ended (λ M 𝓤. run_alone.clauses)
+run-alone-settled M 𝓤 𝓛 mem run κs a g = record { one-outcome = λ x y. all_three 𝓤 (λ r p q. let e = meet p.0 q.0 in same (ap (λ s. s.at) e) (ap (λ (s : Page). (tt, (s.buffer, tt))) e)) }
+
+pub run-alone-as-settled : Inner run_alone-as.ended (λ M 𝓤. run_alone-as.clauses)
+run-alone-as-settled M 𝓤 𝓛 mem run κs a g = record { one-outcome = λ x y. all_three 𝓤 (λ r p q. let e = meet p.0 q.0 in same (ap (λ s. s.at) e) (ap (λ (s : Page). (tt, (tt, (s.buffer, tt)))) e)) }
+
+pub run-read-settled : Inner run-read.ended (λ M 𝓤. run-read.clauses)
+run-read-settled M 𝓤 𝓛 mem run κs a g = record { one-outcome = λ x y. all_three 𝓤 (λ r p q. let e = meet p.0 q.0 in same (ap (λ s. s.at) e) (ap (λ (s : Page). (tt, (tt, (tt, (s.buffer, tt))))) e)) }
+
+pub run-read-as-settled : Inner run-read-as.ended (λ M 𝓤. run-read-as.clauses)
+run-read-as-settled M 𝓤 𝓛 mem run κs a g = record { one-outcome = λ x y. all_three 𝓤 (λ r p q. let e = meet p.0 q.0 in same (ap (λ s. s.at) e) (ap (λ (s : Page). (tt, (tt, (tt, (tt, (s.buffer, tt)))))) e)) }

@@ -47,134 +47,134 @@ use Rattle.answers.specs.contracts.walk.tour_answer as tour-answer
 use Rattle.answers.specs.contracts.walk.walk_answer as walk-answer
 use Rattle.answers.specs.contracts.flip.flip_answer as flip-answer
 
-pub stepped-settled : Public stepped.ended (λ M. stepped.clauses)
+pub stepped-settled : Public stepped.ended (λ M 𝓤. stepped.clauses)
 stepped-settled M 𝓤 𝓛 mem run κs a g = record { asks_nothing = refl; one-outcome = λ x y. both 𝓤 (λ p q. same (meet p q) refl) }
 
-pub generator-new-settled : Public generator-new.ended (λ M. generator-new.clauses)
+pub generator-new-settled : Public generator-new.ended (λ M 𝓤. generator-new.clauses)
 generator-new-settled M 𝓤 𝓛 mem run κs a g = record { asks_nothing = refl; one-outcome = λ x y. both 𝓤 (λ p q. same (λ i. record { state = meet p q i }) refl) }
 
-pub drawn-settled : Public drawn.ended (λ M. drawn.clauses)
+pub drawn-settled : Public drawn.ended (λ M 𝓤. drawn.clauses)
 drawn-settled M 𝓤 𝓛 mem run κs a g = record { asks_nothing = refl; one-outcome = λ x y. both 𝓤 (λ p q. same (meet p q) refl) }
 
-pub choice-settled : Public choice.ended (λ M. choice.clauses)
+pub choice-settled : Public choice.ended (λ M 𝓤. choice.clauses)
 choice-settled M 𝓤 𝓛 mem run κs a g = record { asks_nothing = refl; one-outcome = λ x y. both 𝓤 (λ p q. same (meet p q) refl) }
 
-pub even-settled : Public even.ended (λ M. even.clauses)
+pub even-settled : Public even.ended (λ M 𝓤. even.clauses)
 even-settled M 𝓤 𝓛 mem run κs a g = record { asks_nothing = refl; one-outcome = λ x y. both 𝓤 (λ p q. same (meet p q) refl) }
 
-pub heads-settled : Public heads.ended (λ M. heads.clauses)
+pub heads-settled : Public heads.ended (λ M 𝓤. heads.clauses)
 heads-settled M 𝓤 𝓛 mem run κs a g = record { asks_nothing = refl; one-outcome = λ x y. both 𝓤 (λ p q. same (meet p q) refl) }
 
-pub draw-settled : Public draw.ended (λ M. draw.clauses)
+pub draw-settled : Public draw.ended (λ M 𝓤. draw.clauses)
 draw-settled M 𝓤 𝓛 mem run κs a g = record { asks_nothing = refl; one-outcome = λ x y. both 𝓤 (λ p q. same (meet p.0 q.0) (ap (λ s. (s, tt)) (meet p.1 q.1))) }
 
-pub draw-from-settled : Public draw-from.ended (λ M. draw-from.clauses)
+pub draw-from-settled : Public draw-from.ended (λ M 𝓤. draw-from.clauses)
 draw-from-settled M 𝓤 𝓛 mem run κs a g = record { asks_nothing = refl; one-outcome = λ x y. both 𝓤 (λ p q. same (meet p q) refl) }
 
-pub value-settled : Public value.ended (λ M. value.clauses)
+pub value-settled : Public value.ended (λ M 𝓤. value.clauses)
 value-settled M 𝓤 𝓛 mem run κs a g = record { asks_nothing = refl; one-outcome = λ x y. both 𝓤 (λ p q. same (meet p q) refl) }
 
-pub turn-settled : Public turn.ended (λ M. turn.clauses)
+pub turn-settled : Public turn.ended (λ M 𝓤. turn.clauses)
 turn-settled M 𝓤 𝓛 mem run κs a g = record { asks_nothing = refl; one-outcome = λ x y. both 𝓤 (λ p q. same refl (ap (λ ws. (ws, (tt, tt))) (meet p q))) }
 
-pub put-settled : Public put.ended (λ M. put.clauses)
+pub put-settled : Public put.ended (λ M 𝓤. put.clauses)
 put-settled M 𝓤 𝓛 mem run κs a g = record { asks_nothing = refl; one-outcome = λ x y. both 𝓤 (λ p q. same refl (ap (λ ws. (ws, (tt, (tt, (tt, tt))))) (meet p q))) }
 
-pub chosen-settled : Public chosen.ended (λ M. chosen.clauses)
+pub chosen-settled : Public chosen.ended (λ M 𝓤. chosen.clauses)
 chosen-settled M 𝓤 𝓛 mem run κs a g = record { asks_nothing = refl; one-outcome = λ x y. both 𝓤 (λ p q. same (meet p q) refl) }
 
-pub fill-settled : Public fill.ended (λ M. fill.clauses)
+pub fill-settled : Public fill.ended (λ M 𝓤. fill.clauses)
 fill-settled M 𝓤 𝓛 mem run κs a g = record { asks_nothing = refl; one-outcome = λ x y. both 𝓤 (λ p q. same (λ i. record { state = meet p.0 q.0 i }) (ap (λ ws. (ws, (tt, (tt, tt)))) (meet p.1 q.1))) }
 
-pub hold-settled : Public hold.ended (λ M. hold.clauses)
+pub hold-settled : Public hold.ended (λ M 𝓤. hold.clauses)
 hold-settled M 𝓤 𝓛 mem run κs a g = record { asks_nothing = refl; one-outcome = λ x y. both 𝓤 (λ p q. same refl (ap (λ ws. (ws, (tt, (tt, tt)))) (meet p q))) }
 
-pub least-settled : Public least.ended (λ M. least.clauses)
+pub least-settled : Public least.ended (λ M 𝓤. least.clauses)
 least-settled M 𝓤 𝓛 mem run κs a g = record { asks_nothing = refl; one-outcome = λ x y. both 𝓤 (λ p q. same (meet p q) refl) }
 
-pub first-settled : Public first.ended (λ M. first.clauses)
+pub first-settled : Public first.ended (λ M 𝓤. first.clauses)
 first-settled M 𝓤 𝓛 mem run κs a g = record { asks_nothing = refl; one-outcome = λ x y. both 𝓤 (λ p q. same (meet p q) refl) }
 
-pub next-settled : Public next.ended (λ M. next.clauses)
+pub next-settled : Public next.ended (λ M 𝓤. next.clauses)
 next-settled M 𝓤 𝓛 mem run κs a g = record { asks_nothing = refl; one-outcome = λ x y. both 𝓤 (λ p q. same (meet p q) refl) }
 
-pub pass-settled : Public pass.ended (λ M. pass.clauses)
+pub pass-settled : Public pass.ended (λ M 𝓤. pass.clauses)
 pass-settled M 𝓤 𝓛 mem run κs a g = record { asks_nothing = refl; one-outcome = λ x y. both 𝓤 (λ p q. same (meet p q) refl) }
 
-pub over-settled : Public over.ended (λ M. over.clauses)
+pub over-settled : Public over.ended (λ M 𝓤. over.clauses)
 over-settled M 𝓤 𝓛 mem run κs a g = record { asks_nothing = refl; one-outcome = λ x y. both 𝓤 (λ p q. same (meet p q) refl) }
 
-pub scan-at-settled : Public scan-at.ended (λ M. scan-at.clauses)
+pub scan-at-settled : Public scan-at.ended (λ M 𝓤. scan-at.clauses)
 scan-at-settled M 𝓤 𝓛 mem run κs a g = record { asks_nothing = refl; one-outcome = λ x y. both 𝓤 (λ p q. same (meet p q) refl) }
 
-pub skip-settled : Public skip.ended (λ M. skip.clauses)
+pub skip-settled : Public skip.ended (λ M 𝓤. skip.clauses)
 skip-settled M 𝓤 𝓛 mem run κs a g = record { asks_nothing = refl; one-outcome = λ x y. both 𝓤 (λ p q. same (meet p q) refl) }
 
-pub is-gap-settled : Public is-gap.ended (λ M. is-gap.clauses)
+pub is-gap-settled : Public is-gap.ended (λ M 𝓤. is-gap.clauses)
 is-gap-settled M 𝓤 𝓛 mem run κs a g = record { asks_nothing = refl; one-outcome = λ x y. both 𝓤 (λ p q. same (meet p q) refl) }
 
-pub cut-off-settled : Public cut_off.ended (λ M. cut_off.clauses)
+pub cut-off-settled : Public cut_off.ended (λ M 𝓤. cut_off.clauses)
 cut-off-settled M 𝓤 𝓛 mem run κs a g = record { asks_nothing = refl; one-outcome = λ x y. both 𝓤 (λ p q. same (meet p q) refl) }
 
-pub line-end-settled : Public line-end.ended (λ M. line-end.clauses)
+pub line-end-settled : Public line-end.ended (λ M 𝓤. line-end.clauses)
 line-end-settled M 𝓤 𝓛 mem run κs a g = record { asks_nothing = refl; one-outcome = λ x y. both 𝓤 (λ p q. same (meet p q) refl) }
 
-pub in_numbers-settled : Public in-numbers.ended (λ M. in-numbers.clauses)
+pub in_numbers-settled : Public in-numbers.ended (λ M 𝓤. in-numbers.clauses)
 in_numbers-settled M 𝓤 𝓛 mem run κs a g = record { asks_nothing = refl; one-outcome = λ x y. both 𝓤 (λ p q. same (meet p q) refl) }
 
-pub reader_new-settled : Public reader-new.ended (λ M. reader-new.clauses)
+pub reader_new-settled : Public reader-new.ended (λ M 𝓤. reader-new.clauses)
 reader_new-settled M 𝓤 𝓛 mem run κs a g = record { asks_nothing = refl; one-outcome = λ x y. both 𝓤 (λ p q. same (λ i. record { text = meet p.0 q.0 i; at = meet p.1 q.1 i; line = meet p.2 q.2 i }) refl) }
 
-pub reader_next-settled : Public reader-next.ended (λ M. reader-next.clauses)
+pub reader_next-settled : Public reader-next.ended (λ M 𝓤. reader-next.clauses)
 reader_next-settled M 𝓤 𝓛 mem run κs a g = record { asks_nothing = refl; one-outcome = λ x y. both 𝓤 (λ p q. same (meet p q) refl) }
 
-pub reader_pass-settled : Public reader-pass.ended (λ M. reader-pass.clauses)
+pub reader_pass-settled : Public reader-pass.ended (λ M 𝓤. reader-pass.clauses)
 reader_pass-settled M 𝓤 𝓛 mem run κs a g = record { asks_nothing = refl; one-outcome = λ x y. both 𝓤 (λ p q. same (λ i. record { text = meet p.0 q.0 i; at = meet p.1 q.1 i; line = meet p.2 q.2 i }) refl) }
 
-pub reader_take-settled : Public reader-take.ended (λ M. reader-take.clauses)
+pub reader_take-settled : Public reader-take.ended (λ M 𝓤. reader-take.clauses)
 reader_take-settled M 𝓤 𝓛 mem run κs a g = record { asks_nothing = refl; one-outcome = λ x y. both 𝓤 (λ p q. same (meet p.0 q.0) (ap (λ r. (r, tt)) (meet p.1 q.1))) }
 
-pub token-at-settled : Public token-at.ended (λ M. token-at.clauses)
+pub token-at-settled : Public token-at.ended (λ M 𝓤. token-at.clauses)
 token-at-settled M 𝓤 𝓛 mem run κs a g = record { asks_nothing = refl; one-outcome = λ x y. both 𝓤 (λ p q. same (meet p q) refl) }
 
-pub reader_token-settled : Public reader_token.ended (λ M. reader_token.clauses)
+pub reader_token-settled : Public reader_token.ended (λ M 𝓤. reader_token.clauses)
 reader_token-settled M 𝓤 𝓛 mem run κs a g = record { asks_nothing = refl; one-outcome = λ x y. both 𝓤 (λ p q. same (meet p q) refl) }
 
-pub reader_line-end-settled : Public reader-line-end.ended (λ M. reader-line-end.clauses)
+pub reader_line-end-settled : Public reader-line-end.ended (λ M 𝓤. reader-line-end.clauses)
 reader_line-end-settled M 𝓤 𝓛 mem run κs a g = record { asks_nothing = refl; one-outcome = λ x y. both 𝓤 (λ p q. same (meet p q) refl) }
 
-pub cursor-token-settled : Public cursor-token.ended (λ M. cursor-token.clauses)
+pub cursor-token-settled : Public cursor-token.ended (λ M 𝓤. cursor-token.clauses)
 cursor-token-settled M 𝓤 𝓛 mem run κs a g = record { asks_nothing = refl; one-outcome = λ x y. both 𝓤 (λ p q. same (meet p q) refl) }
 
-pub cursor-pass-settled : Public cursor-pass.ended (λ M. cursor-pass.clauses)
+pub cursor-pass-settled : Public cursor-pass.ended (λ M 𝓤. cursor-pass.clauses)
 cursor-pass-settled M 𝓤 𝓛 mem run κs a g = record { asks_nothing = refl; one-outcome = λ x y. both 𝓤 (λ p q. same (meet p q) refl) }
 
-pub number-of-settled : Public number_of_lem.ended (λ M. number_of_lem.clauses)
+pub number-of-settled : Public number_of_lem.ended (λ M 𝓤. number_of_lem.clauses)
 number-of-settled M 𝓤 𝓛 mem run κs a g = record { asks_nothing = refl; one-outcome = λ x y. both 𝓤 (λ p q. same (meet p q) refl) }
 
-pub draw-answer-settled : Public draw-answer.ended (λ M. draw-answer.clauses)
+pub draw-answer-settled : Public draw-answer.ended (λ M 𝓤. draw-answer.clauses)
 draw-answer-settled M 𝓤 𝓛 mem run κs a g = record { asks_nothing = refl; one-outcome = λ x y. both 𝓤 (λ p q. same (meet p q) refl) }
 
-pub answers-drawn-settled : Public answers-drawn.ended (λ M. answers-drawn.clauses)
+pub answers-drawn-settled : Public answers-drawn.ended (λ M 𝓤. answers-drawn.clauses)
 answers-drawn-settled M 𝓤 𝓛 mem run κs a g = record { asks_nothing = refl; one-outcome = λ x y. both 𝓤 (λ p q. same (meet p q) refl) }
 
-pub answers-choice-settled : Public answers-choice.ended (λ M. answers-choice.clauses)
+pub answers-choice-settled : Public answers-choice.ended (λ M 𝓤. answers-choice.clauses)
 answers-choice-settled M 𝓤 𝓛 mem run κs a g = record { asks_nothing = refl; one-outcome = λ x y. both 𝓤 (λ p q. same (meet p q) refl) }
 
-pub answers-choice-even-settled : Public answers-choice-even.ended (λ M. answers-choice-even.clauses)
+pub answers-choice-even-settled : Public answers-choice-even.ended (λ M 𝓤. answers-choice-even.clauses)
 answers-choice-even-settled M 𝓤 𝓛 mem run κs a g = record { asks_nothing = refl; one-outcome = λ x y. both 𝓤 (λ p q. same (meet p q) refl) }
 
-pub answers-heads-settled : Public answers-heads.ended (λ M. answers-heads.clauses)
+pub answers-heads-settled : Public answers-heads.ended (λ M 𝓤. answers-heads.clauses)
 answers-heads-settled M 𝓤 𝓛 mem run κs a g = record { asks_nothing = refl; one-outcome = λ x y. both 𝓤 (λ p q. same (meet p q) refl) }
 
-pub read-answer-settled : Public read_answer.ended (λ M. read_answer.clauses)
+pub read-answer-settled : Public read_answer.ended (λ M 𝓤. read_answer.clauses)
 read-answer-settled M 𝓤 𝓛 mem run κs a g = record { asks_nothing = refl; one-outcome = λ x y. both 𝓤 (λ p q. same (meet p q) refl) }
 
-pub tour-answer-settled : Public tour-answer.ended (λ M. tour-answer.clauses)
+pub tour-answer-settled : Public tour-answer.ended (λ M 𝓤. tour-answer.clauses)
 tour-answer-settled M 𝓤 𝓛 mem run κs a g = record { asks_nothing = refl; one-outcome = λ x y. both 𝓤 (λ p q. same (meet p q) refl) }
 
-pub walk-answer-settled : Public walk-answer.ended (λ M. walk-answer.clauses)
+pub walk-answer-settled : Public walk-answer.ended (λ M 𝓤. walk-answer.clauses)
 walk-answer-settled M 𝓤 𝓛 mem run κs a g = record { asks_nothing = refl; one-outcome = λ x y. both 𝓤 (λ p q. same (meet p q) refl) }
 
-pub flip-answer-settled : Public flip-answer.ended (λ M. flip-answer.clauses)
+pub flip-answer-settled : Public flip-answer.ended (λ M 𝓤. flip-answer.clauses)
 flip-answer-settled M 𝓤 𝓛 mem run κs a g = record { asks_nothing = refl; one-outcome = λ x y. both 𝓤 (λ p q. same (meet p q) refl) }

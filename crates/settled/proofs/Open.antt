@@ -44,13 +44,13 @@ one-taken {names = names} {terms = terms} {literals = literals} {held = held} {n
       (p.literals-left ∙ ap (λ z. put_if (new_literals z) literals held (literal_of (place_of name (take terms names)) negated)) e ∙ sym q.literals-left) i,
     )
 
-pub find-settled : Inner find.ended (λ M. find.clauses)
+pub find-settled : Inner find.ended (λ M 𝓤. find.clauses)
 find-settled M 𝓤 𝓛 mem run κs a g = record { one-outcome = λ x y. all_three 𝓤 (λ r p q. same (one_found homes (take a.1.1.0 a.0.now) a.1.0.now a.1.1.1.0 x.result y.result p q) refl) }
 
 -- what the part shows, not where it lies
-pub part-settled : InnerSeen part.ended (List ℕ) (λ κs a x. x.result.now) (λ M. part.clauses)
+pub part-settled : InnerSeen part.ended (List ℕ) (λ κs a x. x.result.now) (λ M 𝓤. part.clauses)
 part-settled M 𝓤 𝓛 mem run κs a g = record { one_seen = λ x y. all_three 𝓤 (λ r p q. meet p q) }
 
 -- not the stamps and slots: which slot a name takes is the search's business
-pub taken-settled : InnerSeen taken.ended (Taken × List ℕ × List ℕ) (λ κs a x. (x.result, x.left.0, x.left.1.0)) (λ M. taken.clauses)
+pub taken-settled : InnerSeen taken.ended (Taken × List ℕ × List ℕ) (λ κs a x. (x.result, x.left.0, x.left.1.0)) (λ M 𝓤. taken.clauses)
 taken-settled M 𝓤 𝓛 mem run κs a g = record { one_seen = λ x y. all_three 𝓤 (λ r p q. one-taken p q) }

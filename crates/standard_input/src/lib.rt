@@ -3,42 +3,86 @@
 #![tactic(auto)]
 
 ghost use Rattle.std.specs.Prelude.{◌≤◌, length};
+ghost use Rattle.std.specs.Io.{ReadsAtMost};
 
-// How many bytes were read, and what the last call of `read` answered.
+use std::io::{Cursor, Error, ErrorKind, Read, Result, Write};
+
+// How many bytes were read, and what the last call of `read` answered: 0 at the input's end, and below 0 at a failure, where it is the system's number of
+// the error with a minus before it.
 #[derive(Clone, Copy)]
 pub struct Seen {
     pub read: usize,
     pub last: isize,
 }
 
-// One call of `read` on standard input, made again where a signal cut it short.
-fn read_some(room: &mut [u8]) -> isize {
+// The system's numbers of a call that a signal cut short, and of an error that is not the system's.
+const EINTR: i32 = 4;
+
+const EIO: i32 = 5;
+
+fn is_cut_short(got: &Result<usize>) -> bool {
+    match got {
+        Ok(_) => false,
+        Err(e) => e.kind() == ErrorKind::Interrupted,
+    }
+}
+
+// One call of `read`, made again where a signal cut it short.
+fn read_some<R: Read>(reader: &mut R, room: &mut [u8]) -> Result<usize>
+    ensures { ReadsAtMost result room.new }
+{
     let mut tries: u32 = 0;
     while tries < 1000 {
-        let got = libc::read(0, room);
-        if got >= 0 {
-            return got;
-        }
-        if os::errno() != libc::EINTR {
+        let got = reader.read(room);
+        if !is_cut_short(&got) {
             return got;
         }
         tries += 1;
     }
-    -1
+    Err(Error::from_raw_os_error(EINTR))
 }
 
-// Standard input up to its end, to a failure, or until the buffer is full.
-pub fn read_input(buffer: &mut [u8]) -> Seen
+// What a failure is told by.
+fn number_of(e: &Error) -> isize {
+    match e.raw_os_error() {
+        Some(code) if code > 0 => -(code as isize),
+        _ => -(EIO as isize),
+    }
+}
+
+// The failure that `last` tells of.
+pub fn failure(last: isize) -> Error {
+    Error::from_raw_os_error(i32::try_from(last.wrapping_neg()).unwrap_or(EIO))
+}
+
+// Says on standard error that something failed, and why in the system's words alone.
+pub fn tell(rt: &impl Eprint, what: &str, why: &Error) {
+    let mut said = Cursor::new([0u8; 256]);
+    let _ = write!(said, "{why}");
+    let text = said.into_inner();
+    let _ = match str::from_utf8(&text)
+        .ok()
+        .and_then(|it| it.split_once(" (os error "))
+    {
+        Some((words, _)) => eprintln!(rt; "{what}: {words}"),
+        None => eprintln!(rt; "{what}: {why}"),
+    };
+}
+
+// The reader's bytes up to their end, to a failure, or until the buffer is full.
+pub fn read_input<R: Read>(reader: &mut R, buffer: &mut [u8]) -> Seen
     ensures { result.read ≤ length buffer.new }
 {
     let mut read = 0;
     while read < buffer.len() {
-        let last = read_some(&mut buffer[read..]);
-        let more = io::count(last, &buffer[read..]);
-        if more == 0 {
-            return Seen { read, last };
+        match read_some(reader, &mut buffer[read..]) {
+            Ok(0) => return Seen { read, last: 0 },
+            Ok(more) => read += more,
+            Err(e) => {
+                let last = number_of(&e);
+                return Seen { read, last };
+            }
         }
-        read += more;
     }
     Seen { read, last: 1 }
 }

@@ -1,12 +1,11 @@
 -- `running_report::put_answer` meets its contract: the terms that are left make the answer. Assumes nothing.
-use mathlib.Core.Path.{◌≡◌, refl, ◌∙◌}
+use mathlib.Core.Path.{◌≡◌}
 use mathlib.Core.List.{◌∷◌, []}
 use Prim.Native.Nat.{◌-◌}
 use lib.ListN.{length}
-use borrow.Author.Rules.{rules}
 use Rattle.pages.specs.Pages.{page, put}
-use Rattle.pages.proofs.Pieces.{Left, begun, first_fits, onward, split, over, ended}
-use Rattle.running_report.proofs.Named.{terms_from, terms-over, terms-more, answer-none, answer-more}
+use Rattle.pages.proofs.Pieces.{Left}
+use Rattle.running_report.proofs.Named.{terms_from}
 use Rattle.running_report.proofs.put_answer.Given as goal
 
 abbrev pub invariant-loop-t : goal.invariant-loop-t

@@ -1,14 +1,11 @@
 -- `running_values::put_line_of` meets its contract: the numbers that are left make the line. Assumes nothing.
-use mathlib.Core.Path.{◌≡◌, refl, ◌∙◌}
+use mathlib.Core.Path.{◌≡◌}
 use mathlib.Core.List.{◌∷◌, [], flatten}
 use Prim.Native.Nat.{◌-◌}
 use lib.ListN.{length}
-use borrow.Author.Rules.{rules}
 use Rattle.pages.specs.Pages.{page, put}
-use Rattle.pages.proofs.Pieces.{Left, first_fits, onward, split, ended}
+use Rattle.pages.proofs.Pieces.{Left}
 use Rattle.running_values.specs.Valuing.{values_in}
-use Rattle.running_values.proofs.Valued.{values-over, values-more}
-use Rattle.running_values.proofs.Lines.{none_left, from-here, line-left}
 use Rattle.running_values.proofs.put_line_of.Given as goal
 
 abbrev pub invariant-loop-t : goal.invariant-loop-t

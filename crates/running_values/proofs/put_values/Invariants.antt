@@ -1,21 +1,21 @@
 -- `running_values::put_values` meets its contract: the lines that are left make the whole. Assumes nothing.
-use mathlib.Core.Path.{◌≡◌, refl, ◌∙◌}
+use mathlib.Core.Path.{◌≡◌}
 use mathlib.Core.List.{◌∷◌, []}
 use Prim.Native.Nat.{◌-◌}
 use lib.ListN.{length}
-use borrow.Author.Rules.{rules}
 use Rattle.words.specs.Words.{bit_at}
 use Rattle.scan.specs.Text.{bytes}
 use Rattle.written.specs.Lists.{list_of}
 use Rattle.written.specs.Competition.{lines_for, value_lines}
 use Rattle.pages.specs.Pages.{page, put}
-use Rattle.pages.proofs.Pieces.{Left, first_fits, onward, split, ended}
-use Rattle.running_values.proofs.Valued.{lines_from, lines-over, lines_more}
-use Rattle.running_values.proofs.Lines.{none_left, lines_left}
+use Rattle.pages.proofs.Pieces.{Left}
+use Rattle.running_values.proofs.Valued.{lines_from}
 use Rattle.running_values.proofs.put_values.Given as goal
 
 abbrev pub invariant-loop-i : goal.invariant-loop-i
-invariant-loop-i l = Left (lines_from l.terms l.values i ∷ bytes "v 0\n" ∷ []) (put (value_lines (list_of l.terms (bit_at l.values))) (page l.at l.initial.out)) (page l.i l.next) × (length l.next ≡ length l.initial.out)
+invariant-loop-i l =
+    Left (lines_from l.terms l.values l.i ∷ bytes "v 0\n" ∷ []) (put (value_lines (list_of l.terms (bit_at l.values))) (page l.at l.initial.out)) (page l.next l.out)
+    × (length l.out ≡ length l.initial.out)
 
 abbrev pub decreases-loop-i : goal.decreases-loop-i
-decreases-loop-i l = lines_for l.terms - i
+decreases-loop-i l = lines_for l.terms - l.i

@@ -1,0 +1,7 @@
+-- `cnf::main` is safe: it sees enough of its input, and what is printed is within the buffer. Assumes nothing.
+use borrow.Author.Rules.{rules}
+use Rattle.running_alone.proofs.Alone.{report-room}
+use Rattle.cnf.proofs.main.Goals as goal
+
+pub run_read_as-n-requires : goal.run_read_as-n-requires
+run_read_as-n-requires c = record { within = search rules; more = search rules; room = report-room (search rules) }

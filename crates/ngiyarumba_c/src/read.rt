@@ -1,0 +1,49 @@
+// A reading for C.
+ghost use Rattle.std.specs.Prelude.{◌≡◌};
+ghost use Rattle.written.specs.Limits.{narrow};
+ghost use Rattle.written.specs.Lending.{lent_before, lent_after};
+ghost use Rattle.written.specs.Outcomes.{leaves, told, reading_of};
+ghost use Rattle.answers.specs.Answers.{read_answer};
+
+use answers::read::ReadAnswer;
+
+// Clause text read into the tables, or refused: reason 1 changes nothing, any other leaves the full sizes 0. No term is marked then.
+#[unsafe(no_mangle)]
+pub extern "C" fn ngi_read(
+    text: &[u8],
+    names: &mut [u64],
+    values: &mut [u32],
+    starts: &mut [u16],
+    literals_table: &mut [u16],
+    occurrence_starts: &mut [u16],
+    occurrences: &mut [u16],
+    true_counts: &mut [u16],
+    break_counts: &mut [u16],
+    uncovered_list: &mut [u16],
+    places: &mut [u16],
+    marks: &mut [u8],
+) -> ReadAnswer
+    ensures { leaves result
+        (lent_after names.new values.new starts.new literals_table.new occurrence_starts.new occurrences.new true_counts.new break_counts.new
+        uncovered_list.new places.new)
+        marks.new
+        ≡ told read_answer (reading_of narrow text.now
+        (lent_before names.old values.old starts.old literals_table.old occurrence_starts.old occurrences.old true_counts.old break_counts.old
+        uncovered_list.old places.old)
+        marks.old) }
+{
+    ngiyarumba::read::ngi_read(
+        text,
+        names,
+        values,
+        starts,
+        literals_table,
+        occurrence_starts,
+        occurrences,
+        true_counts,
+        break_counts,
+        uncovered_list,
+        places,
+        marks,
+    )
+}
