@@ -26,12 +26,12 @@ def texts(top):
 def main():
     top = sys.argv[1] if len(sys.argv) > 1 else os.path.dirname(HERE)
     names, changed = table(), 0
-    # a word that was a lemma's and is a definition's now stays where it is the step of a call
+    # a word that was a lemma's and is a definition's now stays where it is a function or the step of a call
     told = {old: new for old, new in names.items() if not (new.endswith("_lem") and re.fullmatch(r"[a-z_]+", old))}
     for path in texts(top):
         with open(path, encoding="utf-8") as text:
             before = text.read()
-        used = told if path.endswith("/Proof.antt") else names
+        used = told if path.endswith(("/Proof.antt", ".rt")) else names
         after = TOKEN.sub(lambda it: used.get(it[0], it[0]), before)
         if after != before:
             with open(path, "w", encoding="utf-8") as text:

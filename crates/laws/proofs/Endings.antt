@@ -14,7 +14,7 @@ use Rattle.written.specs.Flips.{flip, turned}
 use Rattle.written.specs.Drawing.{start_values}
 use Rattle.written.specs.Walk.{Moment, start, step, onwards, is_stuck, stuck_at, is_found, flip_picked, in_clause, walks_from, walk_over}
 use Rattle.written.specs.Printed.{chosen}
-use Rattle.laws.proofs.Basics.{by_cases, both_first, both-second}
+use Rattle.laws.proofs.Basics.{both_first, both-second}
 use Rattle.laws.proofs.Lists.{list_from-length}
 use Rattle.laws.proofs.All.{all-zeros}
 use Rattle.laws.specs.Valid.{Bits}

@@ -1,7 +1,7 @@
 -- What marks give and keep: values held, the literals of free terms, marks that go with values, and tables with marks that are full and agree. Assumes nothing.
-use Prim.Native.Nat.{ℕ, zero, suc, ◌-◌, ◌*◌, ◌≤◌, ◌<◌}
+use Prim.Native.Nat.{ℕ, ◌-◌, ◌*◌, ◌≤◌, ◌<◌}
 use mathlib.Core.Path.{◌≡◌, refl, sym, ap, ◌∙◌}
-use mathlib.Core.Bool.{Bool, true, false, cond, ◌&&◌}
+use mathlib.Core.Bool.{true, false, ◌&&◌}
 use mathlib.Core.List.{List, [], ◌∷◌}
 use native.Mathlib.Omega.{arith}
 use lib.ListN.{length, get_or, take, drop, length-replicate, get_or-replicate}
@@ -9,11 +9,11 @@ use lib.Seq.{get_or-take}
 use lib.Dec.{eqb, leb, ltb}
 use borrow.Author.Tests.{eq-eqb, eqb-true, lt-ltb, ltb-true, le-leb, leb-true}
 use Rattle.written.specs.declared.Counts.{Counts}
-use Rattle.written.specs.Lists.{all, those, below, zeros}
+use Rattle.written.specs.Lists.{all, zeros}
 use Rattle.written.specs.Limits.{Limits}
 use Rattle.written.specs.Clauses.{State, term_of}
 use Rattle.written.specs.Flips.{turned, flip, flipped}
-use Rattle.written.specs.Tables.{Tables, are_full, over, counts_of}
+use Rattle.written.specs.Tables.{Tables, are_full, counts_of}
 use Rattle.written.specs.Agreement.{state_in, agree}
 use Rattle.written.specs.Marks.{is_free, free_in, held_at, held, marks_full, full_marked, unmarked, marks_hold, marks_rest, agree_marked}
 use Rattle.laws.specs.Valid.{Bits}

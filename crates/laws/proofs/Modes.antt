@@ -1,10 +1,9 @@
 -- A choice of a walk in both modes: by the remainder it is the choice of document 01, it is below its number, and made by few draws. Assumes nothing.
-use Prim.Native.Nat.{ℕ, zero, suc, ◌+◌, ◌≤◌, ◌<◌}
-use mathlib.Core.Path.{◌≡◌, refl, sym, ap, ◌∙◌}
+use Prim.Native.Nat.{ℕ, zero, suc, ◌≤◌, ◌<◌}
+use mathlib.Core.Path.{◌≡◌, refl, ap, ◌∙◌}
 use mathlib.Core.Bool.{◌||◌}
 use native.Mathlib.Omega.{arith}
 use lib.Dec.{eqb}
-use borrow.Author.Tests.{ne_eqb}
 use Rattle.draw.specs.Xorshift.{next_of}
 use Rattle.draw.specs.Draw.{choice_of}
 use Rattle.draw.specs.Even.{is_even, even_from, even_of}

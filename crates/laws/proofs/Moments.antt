@@ -17,7 +17,6 @@ use Rattle.laws.specs.Valid.{Proper, Valid}
 use Rattle.laws.specs.WalkCalls.{Comes, DrawsAt}
 use Rattle.laws.specs.WalkCalls.Comes.{seeded, starts, goes_on, sticks}
 use Rattle.laws.specs.WalkCalls.DrawsAt.{at-start, for-clause, in_clause_lem, after-heads, again}
-use Rattle.laws.proofs.Basics.{by_cases}
 use Rattle.laws.proofs.Readings.{as_read-valid}
 use Rattle.laws.proofs.Walks.{begun, found_or_lem, go_on}
 use Rattle.laws.proofs.Endings.{stuck_keeps}

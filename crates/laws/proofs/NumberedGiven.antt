@@ -1,19 +1,18 @@
 -- Which reason a reading of numbered text gives, exactly when. Assumes nothing.
 use Prim.Native.Nat.{ℕ, ◌≤◌, ◌<◌}
 use mathlib.Core.Logic.{◌↔◌, ◌⊎◌, inl, inr}
-use mathlib.Core.Path.{◌≡◌, refl, ap, sym, subst, ◌∙◌}
+use mathlib.Core.Path.{◌≡◌, refl, ap, sym, subst}
 use mathlib.Core.Bool.{true, false}
 use mathlib.Core.List.{List}
 use native.Mathlib.Omega.{arith}
 use borrow.Author.Tests.{lt-ltb, le-ltb}
 use lib.ListN.{length}
 use Rattle.scan.specs.Scan.{open_end}
-use Rattle.written.specs.declared.Reason.TheVariants.{TextTooLong, TextCut}
 use Rattle.written.specs.declared.Fault.{Fault}
 use Rattle.written.specs.declared.Header.{Header}
 use Rattle.written.specs.declared.Numeral.{Numeral}
 use Rattle.written.specs.Limits.{Limits}
-use Rattle.written.specs.Reasons.{number_of, fault}
+use Rattle.written.specs.Reasons.{number_of}
 use Rattle.written.specs.Reading.{Reading, accepted, refused}
 use Rattle.written.specs.Numbered.{Sum, read_numbered}
 use Rattle.written.specs.Tables.{Tables}

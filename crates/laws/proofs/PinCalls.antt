@@ -1,14 +1,14 @@
 -- Pins and lifts of the library's calls: what they do where the term is known and the tables agree, and each reason exactly when. Assumes nothing.
-use Prim.Native.Nat.{ℕ, ◌+◌, ◌-◌, ◌≤◌, ◌<◌, min}
-use mathlib.Core.Logic.{◌↔◌, ◌⊎◌, inl, inr}
+use Prim.Native.Nat.{ℕ, ◌+◌, ◌≤◌, ◌<◌, min}
+use mathlib.Core.Logic.{inl, inr}
 use mathlib.Core.Path.{◌≡◌, refl, ap, sym, subst, subst₂, ◌∙◌}
-use mathlib.Core.Bool.{Bool, true, false, cond, false≢true, true≢false}
-use mathlib.Core.List.{List, [], ◌∷◌}
+use mathlib.Core.Bool.{Bool, true, false, false≢true, true≢false}
+use mathlib.Core.List.{List}
 use native.Mathlib.Omega.{arith}
-use lib.ListN.{length, get_or, set, take, drop, length-set, length-take, get_or-eq_default}
+use lib.ListN.{length, get_or, set, take, length-set, length-take, get_or-eq_default}
 use lib.Seq.{get_or-take, get_or-set_same, get_or-set_other}
 use lib.Dec.{eqb, ltb}
-use borrow.Author.Tests.{eq-eqb, ne_eqb, eqb-true, eqb-false, lt-ltb, le-ltb, ltb-true, ltb-false, leb-true, le-leb}
+use borrow.Author.Tests.{eq-eqb, ne_eqb, eqb-true, eqb-false, lt-ltb, le-ltb, leb-true}
 use Rattle.written.specs.declared.Counts.{Counts}
 use Rattle.written.specs.declared.Reason.{Reason}
 use Rattle.written.specs.declared.Reason.TheVariants.{TableTooShort}
@@ -19,17 +19,16 @@ use Rattle.written.specs.Lists.{all}
 use Rattle.written.specs.Limits.{Limits}
 use Rattle.written.specs.Reasons.{number_of}
 use Rattle.written.specs.Clauses.{File, State}
-use Rattle.written.specs.Flips.{turned, flip, flipped}
+use Rattle.written.specs.Flips.{flip, flipped}
 use Rattle.written.specs.Tables.{Tables, are_full, counts_of, holding}
 use Rattle.written.specs.Agreement.{state_in, agree}
 use Rattle.written.specs.Marks.{held_at, marks_full, full_marked, marks_hold, marks_rest, agree_marked}
 use Rattle.written.specs.Outcomes.{Leaves, flips_refused, flips_leave, term_tested, flip_values, value_asked, flips_for, pin_of, lift_of}
 use Rattle.laws.specs.Valid.{Valid}
-use Rattle.laws.specs.Calls.{Marked, Stands, SameFile}
-use Rattle.laws.specs.Demands.{WorkedOut}
+use Rattle.laws.specs.Calls.{Marked, SameFile}
 use Rattle.laws.specs.PinCalls.{Known, Fails, reason_in, Given, Refused, MarkedAt, state_pinned, Pinned, Lifted}
 use Rattle.laws.specs.PinCalls.Fails.{short, disagree, unknown}
-use Rattle.laws.proofs.Basics.{by_cases, by-eq, by-lt, both}
+use Rattle.laws.proofs.Basics.{by_cases, by-eq, by-lt}
 use Rattle.laws.proofs.Turning.{bit_at_lem, turned_same, turned-other}
 use Rattle.laws.proofs.Flips.{flipped-file}
 use Rattle.laws.proofs.Parity.{flipped-length}

@@ -1,8 +1,8 @@
 -- Pinned terms in walks: their marked values stand at the end; equal marks of a file's terms give equal walks; without a mark all is document 01's.
 -- Assumes nothing.
 use Prim.Native.Nat.{ℕ, zero, suc, ◌+◌, ◌*◌, ◌≤◌, ◌<◌}
-use mathlib.Core.Path.{◌≡◌, refl, sym, ap, ap₂, subst, ◌∙◌}
-use mathlib.Core.Bool.{Bool, true, false, cond, false≢true, true≢false}
+use mathlib.Core.Path.{◌≡◌, refl, sym, ap, subst, ◌∙◌}
+use mathlib.Core.Bool.{true, false, false≢true, true≢false}
 use mathlib.Core.List.{List, []}
 use native.Mathlib.Omega.{arith}
 use lib.ListN.{length, get_or}
@@ -10,11 +10,11 @@ use lib.Dec.{eqb}
 use borrow.Author.Tests.{ltb-true, ne_eqb}
 use Rattle.written.specs.declared.Order.{Order}
 use Rattle.written.specs.Limits.{Limits}
-use Rattle.written.specs.Clauses.{File, State, term_of, afresh, as_read}
+use Rattle.written.specs.Clauses.{File, afresh, as_read}
 use Rattle.written.specs.Flips.{flip}
-use Rattle.written.specs.Drawing.{Pick, chosen_from, start_values, start_state}
-use Rattle.written.specs.Marks.{is_free, free_in, held, marks_hold}
-use Rattle.written.specs.Walk.{Moment, Outcome, start, is_found, literal_in, flip_picked, clause_picked, looked_at, in_clause, step, is_stuck, stuck_at, onwards, found_or, walks_from, walk_over}
+use Rattle.written.specs.Drawing.{chosen_from, start_values, start_state}
+use Rattle.written.specs.Marks.{marks_hold}
+use Rattle.written.specs.Walk.{Moment, Outcome, start, is_found, literal_in, flip_picked, clause_picked, looked_at, in_clause, step, is_stuck, onwards, found_or, walks_from, walk_over}
 use Rattle.laws.specs.Valid.{is_clause, Proper, Valid}
 use Rattle.laws.proofs.Basics.{by_cases}
 use Rattle.laws.proofs.Lists.{list_from-length}
@@ -23,7 +23,7 @@ use Rattle.laws.proofs.Sizes.{clause-some, clause-below}
 use Rattle.laws.proofs.Readings.{as_read-valid}
 use Rattle.laws.proofs.Marks.{all-free, held-holds, turn_holds, held_by, free-by}
 use Rattle.laws.proofs.Walks.{begun, step-flips, go_on, found_or_lem, start-flips}
-use Rattle.laws.proofs.Endings.{onwards-keeps, stuck_keeps, start-file, step-file, end-file}
+use Rattle.laws.proofs.Endings.{onwards-keeps, stuck_keeps, start-file, step-file}
 use Rattle.laws.proofs.Valids.{literal-free, picked-below, not_stuck, start-valid, step-valid}
 
 -- ---- "Placements settled by an editor must not move": pinned terms have their marked values at the end of every walk

@@ -15,10 +15,9 @@ use Rattle.written.specs.declared.Ordered.{Ordered}
 use Rattle.written.specs.declared.Ordered.TheVariants.{Accepted, Refused}
 use Rattle.written.specs.declared.Reason.{Reason}
 use Rattle.written.specs.declared.Fault.{Fault}
-use Rattle.written.specs.declared.Sheet.{Sheet}
 use Rattle.written.specs.Orders.{Range, seeds, flips_each, walks_all, biases, modes, within, in_range}
 use Rattle.written.specs.Sheet.{begins, has_form, number_after, line_length, judged, optional, four_then, sheet_of}
-use Rattle.laws.specs.Sheets.{last_line, after_lines, key_of, range_of, number_in, GoodTo, Faulty, Fifth, Says, four_lines, in_mode, after_four}
+use Rattle.laws.specs.Sheets.{last_line, after_lines, key_of, range_of, number_in, GoodTo, Faulty, Fifth, Says, four_lines, after_four}
 use Rattle.laws.specs.Sheets.Faulty.{wrong_form, out_of_range, not_the_choice}
 use Rattle.laws.specs.Sheets.Fifth.{no_choice, even-choice}
 use Rattle.laws.proofs.Basics.{by_cases, both_first, both-second, same-eq}

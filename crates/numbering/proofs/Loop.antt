@@ -17,7 +17,6 @@ use Rattle.written.specs.Reading.{Reading}
 use Rattle.written.specs.Numerals.{is_gap, number_at}
 use Rattle.numerals.specs.Numbers.{AtGap}
 use Rattle.written.specs.Numbered.{Sum, Pass, on, to, begun, passed, at_numeral, numbers_from}
-use Rattle.laws.proofs.Basics.{by_cases}
 use Rattle.laws.proofs.Times.{times-le}
 use Rattle.laws.proofs.Faults.{Stands}
 use Rattle.laws.proofs.Fuel.{left}
@@ -28,7 +27,7 @@ use Rattle.numbering.specs.declared.Going.{Going}
 use Rattle.numbering.specs.declared.Pass as D
 use Rattle.numbering.specs.declared.Pass.TheVariants as P
 use Rattle.numbering.specs.Passes.{outset}
-use Rattle.numbering.specs.Counting.{Count, desk_with, Summed, CanCount, Passed, CountsBy, EndsBy, CanBegin, read_numbers, Counted}
+use Rattle.numbering.specs.Counting.{Count, desk_with, Summed, CanCount, CountsBy, CanBegin, read_numbers, Counted}
 
 -- tables as long as those that were lent
 pub record Long (k₀ k : Count) : Type 0 where

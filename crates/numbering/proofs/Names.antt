@@ -1,10 +1,10 @@
 -- The names of variables put into their table one after another. Assumes nothing.
-use Prim.Native.Nat.{ℕ, suc, ◌+◌, ◌≤◌, ◌<◌}
-use mathlib.Core.Path.{◌≡◌, refl, ap, sym, ◌∙◌}
+use Prim.Native.Nat.{ℕ, ◌+◌, ◌<◌}
+use mathlib.Core.Path.{◌≡◌, ap, sym, ◌∙◌}
 use mathlib.Core.List.{List, [], ◌∷◌, ◌++◌}
 use native.Mathlib.Omega.{arith}
 use native.Mathlib.Numerals.{add-one}
-use lib.ListN.{length, set, length-append, length-drop}
+use lib.ListN.{length, set}
 use Rattle.written.specs.Tables.{over}
 use Rattle.written.specs.Numbered.{name_for, names_to}
 use Rattle.laws.proofs.NumberedNames.{names-length, names-none, names_snoc}

@@ -16,18 +16,17 @@ use Rattle.written.specs.Limits.{Limits}
 use Rattle.written.specs.Lists.{has, place_of}
 use Rattle.written.specs.Reasons.{fault, fault_at}
 use Rattle.written.specs.Reading.{Reading, Turn, goes, drops, ends, at_literal, at_line_end, at_text_end}
-use Rattle.written.specs.Numbered.{name_for, names_to, Sum, sum, Pass, on, to, turned, is_open, at_zero, at_number, at_numbers_end, at_numeral}
-use Rattle.laws.proofs.Basics.{by_test, by_cases}
+use Rattle.written.specs.Numbered.{name_for, names_to, Sum, sum, Pass, on, to, turned, is_open, at_number, at_numbers_end, at_numeral}
+use Rattle.laws.proofs.Basics.{by_test}
 use Rattle.laws.proofs.NumberedNames.{names-has, names-place}
 use Rattle.laws.proofs.NumberedTurns.{Then, lit_of, number_by, number_above, number-zero, number_passed, number-turn, zero-past, zero-dropped, zero-line}
 use Rattle.laws.proofs.NumberedReadings.{Sums, number-sums}
 use Rattle.reading_literal.specs.declared.Taken.{Taken}
 use Rattle.reading_literal.specs.Taking.{by_number, placing, placed, CanPlace}
 use Rattle.reading_literal.proofs.Takes.{can-place, placed_took}
-use Rattle.reading_lines.specs.declared.Place.{Place}
 use Rattle.reading_lines.specs.declared.Next.{Next}
 use Rattle.reading_lines.specs.declared.Next.TheVariants as N
-use Rattle.reading_lines.specs.Drafting.{Desk, desk, DraftedWith, TurnedWith}
+use Rattle.reading_lines.specs.Drafting.{Desk, DraftedWith, TurnedWith}
 use Rattle.reading_lines.specs.Turns.{after_literal, LineEnd, line_end, after_line, after_text}
 use Rattle.reading_lines.proofs.Held.{known_are, line-length}
 use Rattle.reading_lines.proofs.Literals.{literal-turns}

@@ -7,7 +7,6 @@ use borrow.Author.Tests.{le-leb, lt-leb, lt-ltb, le-ltb}
 use lib.ListN.{length, take, drop, length-append, length-drop}
 use lib.Seq.{length-take-le}
 use Rattle.scan.specs.declared.Cursor.{Cursor}
-use Rattle.scan.specs.Scan.{cursor_at}
 use Rattle.written.specs.declared.Reason.TheVariants.{TooManyTerms, HeaderForm}
 use Rattle.written.specs.declared.Fault.{Fault}
 use Rattle.written.specs.declared.Header.{Header}
@@ -29,7 +28,7 @@ use Rattle.laws.proofs.NumberedReadings.{begun-sums}
 use Rattle.reading_literal.specs.Taking.{by_number}
 use Rattle.reading_lines.specs.declared.Ended.{Ended}
 use Rattle.reading_lines.specs.declared.Ended.TheVariants as E
-use Rattle.reading_lines.specs.Drafting.{Desk, DraftedWith}
+use Rattle.reading_lines.specs.Drafting.{DraftedWith}
 use Rattle.reading_lines.specs.Turns.{place_at}
 use Rattle.reading_lines.proofs.Held.{Begins, begins-drafted}
 use Rattle.numbering.specs.Passes.{outset}

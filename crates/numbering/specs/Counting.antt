@@ -1,6 +1,5 @@
 -- The tables that numbers are put into, the reading on its way that they hold, and how the code's turns are the written ones. Assumes nothing.
 use Rattle.std.specs.Prelude.{ℕ, suc, ◌≤◌, ◌<◌, ◌≡◌, true, false, List, length, get_or}
-use Rattle.scan.specs.declared.Cursor.{Cursor}
 use Rattle.scan.specs.Scan.{open_end, cursor_at}
 use Rattle.written.specs.declared.Header.{Header}
 use Rattle.written.specs.declared.Numeral.{Numeral}

@@ -9,7 +9,6 @@ use borrow.Author.Tests.{eq-eqb, ne_eqb}
 use lib.ListN.{length, get_or, take, drop, get_or-eq_default}
 use lib.Seq.{drop-cons}
 use lib.Dec.{eqb}
-use Rattle.scan.specs.declared.Cursor.{Cursor}
 use Rattle.scan.specs.Scan.{past, rest_at, start, is_of, cursor_at}
 use Rattle.scan.specs.declared.Kind.TheVariants.{Rest}
 use Rattle.scan.proofs.Laws.{past_more, past_stop, past_end, past_ge, past-le}

@@ -1,22 +1,22 @@
 -- The digits from a place on, one after another, and when they are a word's number. Assumes nothing.
-use Prim.Native.Nat.{ℕ, zero, suc, ◌+◌, ◌-◌, ◌*◌, ◌^◌, ◌≤◌, ◌<◌}
+use Prim.Native.Nat.{ℕ, ◌+◌, ◌-◌, ◌*◌, ◌^◌, ◌≤◌, ◌<◌}
 use mathlib.Core.Path.{◌≡◌, refl, ap, sym, ◌∙◌}
-use mathlib.Core.Bool.{Bool, true, false, not, cond, ◌&&◌, ◌||◌, true≢false}
+use mathlib.Core.Bool.{Bool, true, false, not, ◌&&◌, true≢false}
 use mathlib.Core.List.{List}
 use native.Mathlib.Omega.{arith}
 use native.Mathlib.Nat.{pow-le-pow_right}
-use borrow.Author.Tests.{le-leb, lt-leb, leb-true, leb-false, lt-ltb, le-ltb, eqb-true, eqb-false, eq-eqb, ne_eqb, not-true, not-false}
-use lib.ListN.{length, get_or, take, drop, length-drop}
+use borrow.Author.Tests.{le-leb, lt-leb, leb-true, leb-false, lt-ltb, le-ltb, eqb-true, eqb-false, eq-eqb, ne_eqb, not-false}
+use lib.ListN.{length, get_or, drop, length-drop}
 use lib.Seq.{get_or-take, get_or-drop, length-take-le}
 use lib.Dec.{eqb, leb, ltb}
-use Rattle.scan.specs.Scan.{open_end, past}
+use Rattle.scan.specs.Scan.{open_end}
 use Rattle.scan.proofs.Laws.{get_d_any, past_more, past_stop, past_ge, past-le}
 use Rattle.written.specs.Lists.{all}
 use Rattle.written.specs.Sheet.{is_digit, is_number, value_of_digits}
 use Rattle.written.specs.Numerals.{is_gap, is_word, word_end, word_at}
-use Rattle.laws.proofs.Basics.{both, both_first, both-second, by_cases, by-lt, by_test}
+use Rattle.laws.proofs.Basics.{both, both_first, both-second, by_cases, by-lt}
 use Rattle.laws.proofs.All.{all_get_d, all-by}
-use Rattle.digits.proofs.Digits.{Counted, none-counted, next-counted, all-counted}
+use Rattle.digits.proofs.Digits.{none-counted, next-counted, all-counted}
 use Rattle.numerals.specs.declared.Digits.{Digits}
 use Rattle.numerals.specs.Numbers.{Within, Run, Stops, is_whole}
 

@@ -1,9 +1,8 @@
 -- A draft, however names are looked up: whole, it is its file laid in the lent tables; refused, it is within their full sizes. Assumes nothing.
-use Prim.Native.Nat.{ℕ, ◌+◌, ◌-◌, ◌≤◌, ◌<◌}
-use mathlib.Core.Path.{◌≡◌, ap, sym, ◌∙◌}
+use Prim.Native.Nat.{ℕ, ◌+◌, ◌≤◌, ◌<◌}
 use mathlib.Core.List.{List}
 use native.Mathlib.Omega.{arith}
-use lib.ListN.{length, drop}
+use lib.ListN.{length}
 use Rattle.written.specs.Limits.{Limits}
 use Rattle.written.specs.Reading.{Reading, Draft}
 use Rattle.laws.proofs.Padding.{same-later}

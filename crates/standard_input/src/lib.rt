@@ -2,8 +2,9 @@
 
 #![tactic(auto)]
 
-ghost use Rattle.std.specs.Prelude.{◌≤◌, length};
+ghost use Rattle.std.specs.Prelude.{◌≡◌, ◌≤◌, ◌<ℤ◌, length, take, pos};
 ghost use Rattle.std.specs.Io.{ReadsAtMost};
+ghost use Rattle.std.specs.Io.KnownBytes.{Consumes, IsAtEnd, ReadConsumes};
 
 use std::io::{Cursor, Error, ErrorKind, Read, Result, Write};
 
@@ -20,30 +21,25 @@ const EINTR: i32 = 4;
 
 const EIO: i32 = 5;
 
-fn is_cut_short(got: &Result<usize>) -> bool {
-    match got {
-        Ok(_) => false,
-        Err(e) => e.kind() == ErrorKind::Interrupted,
-    }
-}
-
 // One call of `read`, made again where a signal cut it short.
 fn read_some<R: Read>(reader: &mut R, room: &mut [u8]) -> Result<usize>
-    ensures { ReadsAtMost result room.new }
+    ensures bound { ReadsAtMost result room.new }
+    ensures bytes { ReadConsumes (R.remaining reader.old) (R.remaining reader.new) result room.new }
 {
     let mut tries: u32 = 0;
     while tries < 1000 {
-        let got = reader.read(room);
-        if !is_cut_short(&got) {
-            return got;
+        match reader.read(room) {
+            Err(e) if e.kind() == ErrorKind::Interrupted => tries += 1,
+            got => return got,
         }
-        tries += 1;
     }
     Err(Error::from_raw_os_error(EINTR))
 }
 
 // What a failure is told by.
-fn number_of(e: &Error) -> isize {
+fn number_of(e: &Error) -> isize
+    ensures { result <ℤ pos 0 }
+{
     match e.raw_os_error() {
         Some(code) if code > 0 => -(code as isize),
         _ => -(EIO as isize),
@@ -71,7 +67,9 @@ pub fn tell(rt: &impl Eprint, what: &str, why: &Error) {
 
 // The reader's bytes up to their end, to a failure, or until the buffer is full.
 pub fn read_input<R: Read>(reader: &mut R, buffer: &mut [u8]) -> Seen
-    ensures { result.read ≤ length buffer.new }
+    ensures bound { result.read ≤ length buffer.new }
+    ensures bytes { Consumes (R.remaining reader.old) (R.remaining reader.new) (take result.read buffer.new) }
+    ensures end { result.last ≡ pos 0 → IsAtEnd (R.remaining reader.new) }
 {
     let mut read = 0;
     while read < buffer.len() {

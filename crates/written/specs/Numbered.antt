@@ -1,7 +1,6 @@
 -- Document 02, [4]: a reading of a numbered clause file, number by number. Assumes nothing.
 use Rattle.std.specs.Prelude.{ℕ, zero, suc, Bool, true, false, cond, ◌||◌, List, [], length, eqb, ltb, leb}
 use Rattle.scan.specs.declared.Cursor.{Cursor}
-use Rattle.scan.specs.declared.Lit.{Lit}
 use Rattle.scan.specs.Scan.{packed, start}
 use Rattle.written.specs.declared.Reason.TheVariants.{ByteNotAllowed, TooManyTerms, HeaderForm, ClauseCount, PastHeader}
 use Rattle.written.specs.declared.Form.{Form}

@@ -4,10 +4,8 @@ use Rattle.scan.specs.declared.Cursor.{Cursor}
 use Rattle.scan.specs.declared.Kind.TheVariants.{Blank, Gap, Word}
 use Rattle.scan.specs.Scan.{is_of, past, rest_at}
 use Rattle.scan.specs.Text.{bytes}
-use Rattle.written.specs.declared.Header.{Header}
 use Rattle.written.specs.declared.Headed.{Headed}
 use Rattle.written.specs.declared.Headed.TheVariants.{Says, Malformed}
-use Rattle.written.specs.declared.Signed.{Signed}
 use Rattle.written.specs.declared.Numeral.{Numeral}
 use Rattle.written.specs.declared.Numeral.TheVariants.{Number, Bad, End}
 use Rattle.written.specs.declared.Met.{Met}

@@ -6,7 +6,7 @@ use Rattle.written.specs.declared.Order.{Order}
 use Rattle.written.specs.Limits.{Limits}
 use Rattle.written.specs.Clauses.{State}
 use Rattle.written.specs.Tables.{Tables, no_counts, tables_of, cleared}
-use Rattle.written.specs.Outcomes.{Values, reading_of, walk_of, flips_of, pin_of, lift_of, read_values, walk_values, flip_values}
+use Rattle.written.specs.Outcomes.{reading_of, walk_of, flips_of, pin_of, lift_of, read_values, walk_values, flip_values}
 use Rattle.written.specs.Computing.{computing, ◌tells◌, Tells}
 use Rattle.written.specs.Calls.{small, counts, sevens, given, free, holding, read, b_turned, a_turned, zero, Seen, Call, saw}
 

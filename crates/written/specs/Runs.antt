@@ -1,6 +1,6 @@
 -- The program's run on lent tables and a lent buffer, and the values of a sheet, worked out under small limits: two tables of examples.
 -- Each stands under one statement, which antt computes. Assumes nothing.
-use Rattle.std.specs.Prelude.{ℕ, ◌-◌, refl, List, [], ◌∷◌, ◌++◌, length, drop}
+use Rattle.std.specs.Prelude.{ℕ, refl, List, [], ◌∷◌, ◌++◌, length, drop}
 use Prim.Native.String.{String}
 use Rattle.scan.specs.Text.{bytes}
 use Rattle.written.specs.Limits.{Limits}

@@ -14,11 +14,10 @@ loop-i-preserved c =
 
 pub returns-else-literal_next : goal.returns-else-literal_next
 unfolding clause_next
-returns-else-literal_next c =
-    (
-      fails _ _ _ _ _ _ c.loop-i.invariant.1 c.loop-i-test.true (sym c.literal_next.ensures.0 ∙ c.if-literal_next.false),
-      λ e. not-both e refl,
-    )
+returns-else-literal_next c = (
+  fails _ _ _ _ _ _ c.loop-i.invariant.1 c.loop-i-test.true (sym c.literal_next.ensures.0 ∙ c.if-literal_next.false),
+  λ e. not-both e refl,
+)
 
 pub returns : goal.returns
 unfolding clause_next pass_clause

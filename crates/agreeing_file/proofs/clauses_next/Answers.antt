@@ -17,12 +17,11 @@ loop-c-preserved c =
 
 pub returns-else-clause_next : goal.returns-else-clause_next
 unfolding clauses_next
-returns-else-clause_next c =
-    (
-      range-fails _ _ _ _ _ _ c.loop-c.invariant.1 c.loop-c-test.true
+returns-else-clause_next c = (
+  range-fails _ _ _ _ _ _ c.loop-c.invariant.1 c.loop-c-test.true
       (clause-is _ _ _ _ _ _ c.part.ensures c.clause_next.ensures.0 ∙ c.if-clause_next.false),
-      λ e. not-both e refl,
-    )
+  λ e. not-both e refl,
+)
 
 pub returns : goal.returns
 unfolding clauses_next pass_clauses

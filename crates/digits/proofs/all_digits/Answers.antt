@@ -1,10 +1,7 @@
 -- `digits::all_digits` meets its contract: every byte before i is a digit. Assumes nothing.
 use mathlib.Core.Path.{sym, ◌∙◌}
-use Prim.Native.Nat.{◌-◌}
-use lib.ListN.{length}
-use borrow.Author.Rules.{rules}
 use Rattle.written.specs.Sheet.{is_digit}
-use Rattle.laws.proofs.Tests.{said_no, said-yes, Tested, none-tested, one-tested, one-fails, all_tested}
+use Rattle.laws.proofs.Tests.{one-tested, all_tested}
 use Rattle.digits.proofs.all_digits.Goals as goal
 
 pub loop-i-preserved : goal.loop-i-preserved

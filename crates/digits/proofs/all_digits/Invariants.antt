@@ -1,9 +1,8 @@
 -- `digits::all_digits` meets its contract: every byte before i is a digit. Assumes nothing.
 use Prim.Native.Nat.{◌-◌}
 use lib.ListN.{length}
-use borrow.Author.Rules.{rules}
 use Rattle.written.specs.Sheet.{is_digit}
-use Rattle.laws.proofs.Tests.{said_no, said-yes, Tested, none-tested, one-tested, one-fails, all_tested}
+use Rattle.laws.proofs.Tests.{Tested}
 use Rattle.digits.proofs.all_digits.Given as goal
 
 abbrev pub invariant-loop-i : goal.invariant-loop-i

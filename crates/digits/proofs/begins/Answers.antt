@@ -1,8 +1,5 @@
 -- `digits::begins` meets its contract: what is left of the bytes begins with what is left of the key exactly if all do. Assumes nothing.
-use Prim.Native.Nat.{◌-◌}
-use mathlib.Core.Path.{◌≡◌, refl, sym, ◌∙◌}
-use lib.ListN.{length, drop}
-use borrow.Author.Rules.{rules}
+use mathlib.Core.Path.{sym, ◌∙◌}
 use borrow.Author.Tests.{eq-eqb, ne_eqb}
 use Rattle.digits.proofs.Keys.{leads, key-short, key-fails, key_more, key-passed}
 use Rattle.digits.proofs.begins.Goals as goal

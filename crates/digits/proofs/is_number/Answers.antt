@@ -3,11 +3,9 @@ use Prim.Native.Nat.{ℕ}
 use mathlib.Core.Path.{◌≡◌, sym, ◌∙◌}
 use mathlib.Core.Bool.{true, false}
 use native.Mathlib.Omega.{arith}
-use borrow.Author.Rules.{rules}
 use lib.Dec.{ltb}
 use borrow.Author.Tests.{lt-ltb, le-ltb, le-leb, lt-leb, eq-eqb, ne_eqb}
 use Rattle.written.specs.Sheet.{is_number}
-use Rattle.laws.proofs.Tests.{said_no, said-yes}
 use Rattle.digits.proofs.is_number.Goals as goal
 
 zero : (n : ℕ) → n ≡ 0 → ltb 0 n ≡ false

@@ -1,9 +1,6 @@
 -- `digits::value` meets its contract: each digit is counted after those before it. Assumes nothing.
-use Prim.Native.Nat.{◌-◌}
-use lib.ListN.{length}
 use native.Mathlib.Omega.{arith}
-use borrow.Author.Rules.{rules}
-use Rattle.digits.proofs.Digits.{Counted, none-counted, digit_low, counted-fits, one-counted, all-counted}
+use Rattle.digits.proofs.Digits.{none-counted, digit_low, counted-fits, one-counted}
 use Rattle.digits.proofs.value.Goals as goal
 
 pub loop-i-init : goal.loop-i-init

@@ -1,9 +1,7 @@
 -- `digits::value` meets its contract: each digit is counted after those before it. Assumes nothing.
 use Prim.Native.Nat.{◌-◌}
 use lib.ListN.{length}
-use native.Mathlib.Omega.{arith}
-use borrow.Author.Rules.{rules}
-use Rattle.digits.proofs.Digits.{Counted, none-counted, digit_low, counted-fits, one-counted, all-counted}
+use Rattle.digits.proofs.Digits.{Counted}
 use Rattle.digits.proofs.value.Given as goal
 
 abbrev pub invariant-loop-i : goal.invariant-loop-i

@@ -1,11 +1,7 @@
 -- `names::find` meets its contract: the slots passed hold other names. Assumes nothing.
-use native.Mathlib.Omega.{arith}
-use Prim.Native.Nat.{◌+◌, ◌-◌}
-use lib.ListN.{take}
-use borrow.Author.Rules.{rules}
 use Rattle.written.specs.Limits.{narrow}
 use Rattle.names.specs.Finding.{homes}
-use Rattle.machine.proofs.Slots.{Searched, search_begun, in_slots, in_names, before-end, search_missed, search_hit, search_again}
+use Rattle.machine.proofs.Slots.{search_begun, search_missed, search_hit, search_again}
 use Rattle.names.proofs.find.Goals as goal
 
 pub loop-terms-init : goal.loop-terms-init

@@ -1,11 +1,8 @@
 -- `names::find` meets its contract: the slots passed hold other names. Assumes nothing.
-use native.Mathlib.Omega.{arith}
 use Prim.Native.Nat.{◌+◌, ◌-◌}
 use lib.ListN.{take}
-use borrow.Author.Rules.{rules}
-use Rattle.written.specs.Limits.{narrow}
 use Rattle.names.specs.Finding.{homes}
-use Rattle.machine.proofs.Slots.{Searched, search_begun, in_slots, in_names, before-end, search_missed, search_hit, search_again}
+use Rattle.machine.proofs.Slots.{Searched}
 use Rattle.names.proofs.find.Given as goal
 
 abbrev pub invariant-loop-terms : goal.invariant-loop-terms

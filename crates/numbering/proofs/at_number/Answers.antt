@@ -1,11 +1,10 @@
 -- `numbering::at_number` meets its contract: each way out by the law of its case. Assumes nothing.
 use mathlib.Core.Path.{ap, ◌∙◌}
 use native.Mathlib.Omega.{arith}
-use borrow.Author.Rules.{rules}
 use Rattle.written.specs.Limits.{narrow}
 use Rattle.reading_lines.specs.declared.Next.{Next}
 use Rattle.numbering.specs.Passes.{pass_of}
-use Rattle.numbering.proofs.Passes.{above_counts, zero-counts, dropped-counts, literal-can, literal-counts}
+use Rattle.numbering.proofs.Passes.{above_counts, zero-counts, dropped-counts, literal-counts}
 use Rattle.numbering.proofs.at_number.Goals as goal
 
 pub returns-then-h-number : goal.returns-then-h-number

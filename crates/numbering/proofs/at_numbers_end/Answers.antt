@@ -1,6 +1,5 @@
 -- `numbering::at_numbers_end` meets its contract: each way out by the tests that lead there. Assumes nothing.
 use mathlib.Core.Path.{refl, ap, sym, ◌∙◌}
-use native.Mathlib.Omega.{arith}
 use borrow.Author.Tests.{eq-eqb, ne_eqb, lt-ltb, le-ltb}
 use Rattle.reading_lines.specs.declared.Next.{Next}
 use Rattle.numbering.specs.Passes.{pass_of, after_numbers}

@@ -1,7 +1,6 @@
 -- `numbering::at_numeral` meets its contract: a number, what is none, or the text's end. Assumes nothing.
-use mathlib.Core.Path.{refl, ap, sym, ◌∙◌}
+use mathlib.Core.Path.{ap, ◌∙◌}
 use native.Mathlib.Omega.{arith}
-use borrow.Author.Rules.{rules}
 use Rattle.written.specs.Limits.{narrow}
 use Rattle.reading_lines.specs.declared.Next.{Next}
 use Rattle.numbering.specs.Passes.{pass_of}

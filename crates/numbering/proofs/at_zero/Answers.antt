@@ -1,7 +1,5 @@
 -- `numbering::at_zero` meets its contract: each way out by the tests that lead there. Assumes nothing.
 use mathlib.Core.Path.{ap, ◌∙◌}
-use native.Mathlib.Omega.{arith}
-use borrow.Author.Rules.{rules}
 use Rattle.reading_lines.specs.declared.Next.{Next}
 use Rattle.numbering.specs.Passes.{pass_of}
 use Rattle.numbering.proofs.Passes.{past-count, of-dropped, of-line}

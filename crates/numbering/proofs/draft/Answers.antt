@@ -1,7 +1,5 @@
 -- `numbering::draft` meets its contract: a header that cannot be passed, or the names and then the numbers. Assumes nothing.
-use mathlib.Core.Path.{refl}
 use native.Mathlib.Omega.{arith}
-use borrow.Author.Rules.{rules}
 use Rattle.written.specs.Limits.{narrow}
 use Rattle.numbering.proofs.Texts.{line_low, no_header, malformed, too_many, numbers-can, numbers-drawn}
 use Rattle.numbering.proofs.draft.Goals as goal

@@ -1,6 +1,6 @@
 -- `numbering::name_of` meets its contract: the digits put so far follow those that are left. Assumes nothing.
 use native.Mathlib.Omega.{arith}
-use Rattle.laws.proofs.NumberedNames.{Spelling, spelling_begun, spelling_more, spelling_ended, spelling_room}
+use Rattle.laws.proofs.NumberedNames.{spelling_more, spelling_ended, spelling_room}
 use Rattle.numbering.proofs.name_of.Goals as goal
 
 pub overflow_mul-name : goal.overflow_mul-name

@@ -1,6 +1,5 @@
 -- `numbering::name_of` meets its contract: the digits put so far follow those that are left. Assumes nothing.
-use native.Mathlib.Omega.{arith}
-use Rattle.laws.proofs.NumberedNames.{Spelling, spelling_begun, spelling_more, spelling_ended, spelling_room}
+use Rattle.laws.proofs.NumberedNames.{Spelling}
 use Rattle.numbering.proofs.name_of.Given as goal
 
 abbrev pub invariant-loop-rest : goal.invariant-loop-rest

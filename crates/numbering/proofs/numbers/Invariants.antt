@@ -1,11 +1,8 @@
 -- `numbering::numbers` meets its contract: what is left of the numbers makes the whole reading. Assumes nothing.
-use mathlib.Core.Path.{◌∙◌}
-use native.Mathlib.Omega.{arith}
-use borrow.Author.Rules.{rules}
 use Rattle.written.specs.Limits.{narrow}
 use Rattle.laws.proofs.Fuel.{left}
 use Rattle.numbering.specs.Counting.{count}
-use Rattle.numbering.proofs.Loop.{Underway, begun-way, count-can, at_gap, met-low, counted-on}
+use Rattle.numbering.proofs.Loop.{Underway}
 use Rattle.numbering.proofs.numbers.Given as goal
 
 abbrev pub invariant-loop-q : goal.invariant-loop-q

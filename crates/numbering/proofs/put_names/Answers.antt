@@ -1,13 +1,7 @@
 -- `numbering::put_names` meets its contract: the names put so far stand over what was there. Assumes nothing.
-use Prim.Native.Nat.{ℕ, ◌-◌, ◌≤◌}
-use mathlib.Core.Path.{◌≡◌, refl, ap, ◌∙◌}
-use mathlib.Core.List.{List}
-use native.Mathlib.Nat.{le_antisymm}
+use mathlib.Core.Path.{refl, ◌∙◌}
 use native.Mathlib.Omega.{arith}
-use borrow.Author.Rules.{rules}
-use lib.ListN.{length, length-set}
-use Rattle.written.specs.Tables.{over}
-use Rattle.written.specs.Numbered.{names_to}
+use lib.ListN.{length-set}
 use Rattle.numbering.proofs.Names.{none-put, one-put}
 use Rattle.numbering.proofs.put_names.Goals as goal
 

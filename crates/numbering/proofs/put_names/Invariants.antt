@@ -1,14 +1,9 @@
 -- `numbering::put_names` meets its contract: the names put so far stand over what was there. Assumes nothing.
-use Prim.Native.Nat.{ℕ, ◌-◌, ◌≤◌}
-use mathlib.Core.Path.{◌≡◌, refl, ap, ◌∙◌}
-use mathlib.Core.List.{List}
-use native.Mathlib.Nat.{le_antisymm}
-use native.Mathlib.Omega.{arith}
-use borrow.Author.Rules.{rules}
-use lib.ListN.{length, length-set}
+use Prim.Native.Nat.{◌-◌, ◌≤◌}
+use mathlib.Core.Path.{◌≡◌}
+use lib.ListN.{length}
 use Rattle.written.specs.Tables.{over}
 use Rattle.written.specs.Numbered.{names_to}
-use Rattle.numbering.proofs.Names.{none-put, one-put}
 use Rattle.numbering.proofs.put_names.Given as goal
 
 abbrev pub invariant-loop-k : goal.invariant-loop-k

@@ -1,9 +1,6 @@
 -- `numerals::digits_at` meets its contract: the digits so far are the word's first. Assumes nothing.
-use Prim.Native.Nat.{◌-◌, ◌≤◌}
 use native.Mathlib.Omega.{arith}
-use borrow.Author.Rules.{rules}
-use Rattle.numerals.specs.Numbers.{Run}
-use Rattle.numerals.proofs.Runs.{none-run, one-run, run_fits, below-digits, above_digits}
+use Rattle.numerals.proofs.Runs.{none-run, one-run}
 use Rattle.numerals.proofs.digits_at.Goals as goal
 
 pub loop-i-init : goal.loop-i-init

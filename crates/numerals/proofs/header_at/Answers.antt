@@ -4,11 +4,9 @@ use Prim.Native.Nat.{ℕ, ◌+◌, ◌≤◌, ◌<◌}
 use mathlib.Core.Path.{◌≡◌}
 use mathlib.Core.List.{List}
 use native.Mathlib.Omega.{arith}
-use borrow.Author.Rules.{rules}
 use lib.ListN.{length}
 use Rattle.scan.specs.Scan.{past}
 use Rattle.written.specs.Numerals.{is_blank}
-use Rattle.laws.proofs.Tests.{said_no, said-yes}
 use Rattle.numerals.proofs.Headers.{blank-within, no_line, no_p, no_blank-after-p, no_cnf, no_blank-after-cnf, keys_stand}
 use mathlib.Core.Path.{sym, ◌∙◌}
 use Rattle.numerals.proofs.header_at.Goals as goal

@@ -1,8 +1,5 @@
 -- `numerals::is_whole` meets its contract: each way out by the tests that lead there. Assumes nothing.
-use native.Mathlib.Omega.{arith}
-use borrow.Author.Rules.{rules}
 use borrow.Author.Tests.{le-leb, lt-leb, eq-eqb, ne_eqb}
-use Rattle.laws.proofs.Tests.{said_no, said-yes}
 use Rattle.numerals.specs.Numbers.{is_whole}
 use mathlib.Core.Path.{sym, ◌∙◌}
 use Rattle.numerals.proofs.is_whole.Goals as goal

@@ -1,9 +1,7 @@
 -- `numerals::number_at` meets its contract: the text's end, or the word that stands past the gaps, read by its digits. Assumes nothing.
 use mathlib.Core.Path.{ap}
 use mathlib.Core.Bool.{not}
-use native.Mathlib.Omega.{arith}
-use borrow.Author.Rules.{rules}
-use Rattle.numerals.proofs.Words.{met-end, digits-can, bad-met, number-met}
+use Rattle.numerals.proofs.Words.{met-end, bad-met, number-met}
 use Rattle.numerals.proofs.number_at.Goals as goal
 
 pub returns-then-text-at : goal.returns-then-text-at

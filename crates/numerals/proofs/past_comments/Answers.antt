@@ -1,12 +1,9 @@
 -- `numerals::past_comments` meets its contract: where the lines passed so far lead is where all lead. Assumes nothing.
-use Prim.Native.Nat.{◌-◌}
 use native.Mathlib.Omega.{arith}
-use borrow.Author.Rules.{rules}
-use lib.ListN.{length}
 use Rattle.scan.specs.Scan.{is_of}
 use Rattle.scan.specs.declared.Kind.TheVariants.{Rest}
 use Rattle.scan.proofs.Laws.{past-le, past_ge}
-use Rattle.numerals.proofs.Gaps.{Passing, none_passed, one_more, no_more, at-text-end}
+use Rattle.numerals.proofs.Gaps.{none_passed, one_more, no_more, at-text-end}
 use Rattle.numerals.proofs.past_comments.Goals as goal
 
 pub loop-at-init : goal.loop-at-init

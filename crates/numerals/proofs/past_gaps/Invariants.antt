@@ -1,14 +1,10 @@
 -- `numerals::past_gaps` meets its contract: what is left of the gaps leads where all do. Assumes nothing.
 -- a line is counted for each byte at most
 use Prim.Native.Nat.{◌+◌, ◌-◌, ◌≤◌}
-use mathlib.Core.Path.{◌≡◌, refl, ◌∙◌}
-use native.Mathlib.Omega.{arith}
-use borrow.Author.Rules.{rules}
+use mathlib.Core.Path.{◌≡◌}
 use lib.ListN.{length}
 use Rattle.scan.specs.Scan.{cursor_at}
 use Rattle.written.specs.Numerals.{past_gaps}
-use Rattle.laws.proofs.Tests.{said_no, said-yes}
-use Rattle.numerals.proofs.Gaps.{gap-on, gap-stop, gap-end}
 use Rattle.numerals.proofs.past_gaps.Given as goal
 
 abbrev pub invariant-loop-at : goal.invariant-loop-at

@@ -4,12 +4,9 @@ use Prim.Native.Nat.{ℕ, ◌≤◌}
 use mathlib.Core.Path.{◌≡◌}
 use mathlib.Core.List.{List}
 use native.Mathlib.Omega.{arith}
-use native.Mathlib.Nat.{le_of_lt}
-use borrow.Author.Rules.{rules}
 use lib.ListN.{length}
 use Rattle.scan.specs.Scan.{past}
 use Rattle.written.specs.Numerals.{is_blank, word_end}
-use Rattle.laws.proofs.Tests.{said_no, said-yes}
 use Rattle.numerals.proofs.Headers.{word-from, word-within, blank-within, sizes-none, first-none, no_blank, second_none, text-ends, more-after, says_both}
 use mathlib.Core.Path.{sym, ◌∙◌}
 use Rattle.numerals.proofs.sizes_at.Goals as goal

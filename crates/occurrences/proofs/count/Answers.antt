@@ -1,10 +1,4 @@
-use mathlib.Core.Path.{◌≡◌, refl}
-use Prim.Native.Nat.{◌-◌}
-use native.Mathlib.Omega.{arith}
-use lib.ListN.{length}
-use Rattle.machine.specs.Filling.{tally, CanTally}
-use Rattle.machine.proofs.Runs.{Running, begun, next-can, again, ended}
-use borrow.Author.Rules.{rules}
+use Rattle.machine.proofs.Runs.{next-can, again}
 use Rattle.occurrences.proofs.count.Goals as goal
 
 pub raise-requires : goal.raise-requires

@@ -1,12 +1,7 @@
-use mathlib.Core.Path.{◌≡◌, refl, ◌∙◌}
-use Prim.Native.Nat.{◌-◌, ◌≤◌}
+use mathlib.Core.Path.{refl, ◌∙◌}
 use native.Mathlib.Omega.{arith}
-use lib.ListN.{length}
-use Rattle.machine.specs.Passes.{up_to}
-use Rattle.machine.specs.Filling.{filling, put_clause}
-use Rattle.machine.proofs.Rewritten.{up_none, up_more, up-end}
-use Rattle.occurrences.proofs.Filling.{clause-can, clause-is}
-use borrow.Author.Rules.{rules}
+use Rattle.machine.proofs.Rewritten.{up_none, up_more}
+use Rattle.occurrences.proofs.Filling.{clause-is}
 use Rattle.occurrences.proofs.put_all.Goals as goal
 
 pub loop-c-init : goal.loop-c-init

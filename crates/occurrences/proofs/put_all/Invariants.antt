@@ -1,12 +1,8 @@
-use mathlib.Core.Path.{◌≡◌, refl, ◌∙◌}
+use mathlib.Core.Path.{◌≡◌}
 use Prim.Native.Nat.{◌-◌, ◌≤◌}
-use native.Mathlib.Omega.{arith}
 use lib.ListN.{length}
 use Rattle.machine.specs.Passes.{up_to}
 use Rattle.machine.specs.Filling.{filling, put_clause}
-use Rattle.machine.proofs.Rewritten.{up_none, up_more, up-end}
-use Rattle.occurrences.proofs.Filling.{clause-can, clause-is}
-use borrow.Author.Rules.{rules}
 use Rattle.occurrences.proofs.put_all.Given as goal
 
 abbrev pub invariant-loop-c : goal.invariant-loop-c

@@ -1,10 +1,5 @@
-use mathlib.Core.Path.{◌≡◌, refl, ◌∙◌}
-use Prim.Native.Nat.{◌-◌}
-use native.Mathlib.Omega.{arith}
-use lib.ListN.{length}
-use Rattle.machine.specs.Filling.{filling, put_one, CanPut}
-use Rattle.machine.proofs.Runs.{Running, begun, next-can, again, ended}
-use borrow.Author.Rules.{rules}
+use mathlib.Core.Path.{◌∙◌}
+use Rattle.machine.proofs.Runs.{next-can, again}
 use Rattle.occurrences.proofs.put_clause.Goals as goal
 
 pub put_one-requires : goal.put_one-requires

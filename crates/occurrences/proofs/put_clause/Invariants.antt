@@ -1,10 +1,8 @@
-use mathlib.Core.Path.{◌≡◌, refl, ◌∙◌}
+use mathlib.Core.Path.{◌≡◌}
 use Prim.Native.Nat.{◌-◌}
-use native.Mathlib.Omega.{arith}
 use lib.ListN.{length}
 use Rattle.machine.specs.Filling.{filling, put_one, CanPut}
-use Rattle.machine.proofs.Runs.{Running, begun, next-can, again, ended}
-use borrow.Author.Rules.{rules}
+use Rattle.machine.proofs.Runs.{Running}
 use Rattle.occurrences.proofs.put_clause.Given as goal
 
 abbrev pub invariant-loop-i : goal.invariant-loop-i

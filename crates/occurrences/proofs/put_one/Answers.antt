@@ -1,5 +1,4 @@
 use Rattle.occurrences.proofs.Filling.{put_is}
-use borrow.Author.Rules.{rules}
 use Rattle.occurrences.proofs.put_one.Goals as goal
 
 pub returns : goal.returns

@@ -1,13 +1,9 @@
-use mathlib.Core.Path.{◌≡◌, refl}
-use Prim.Native.Nat.{◌-◌, ◌≤◌}
+use mathlib.Core.Path.{refl}
 use native.Mathlib.Nat.{le_trans}
 use native.Mathlib.Omega.{arith}
-use lib.ListN.{length, take, length-set}
-use Rattle.written.specs.Lists.{total}
-use Rattle.machine.specs.Passes.{rewritten}
+use lib.ListN.{length-set}
 use Rattle.machine.proofs.Rewritten.{rewritten-none}
 use Rattle.occurrences.proofs.Summing.{sum_more, sum_fits, start-more, start-last}
-use borrow.Author.Rules.{rules}
 use Rattle.occurrences.proofs.sums.Goals as goal
 
 pub loop-l-init : goal.loop-l-init

@@ -1,13 +1,8 @@
-use mathlib.Core.Path.{◌≡◌, refl}
+use mathlib.Core.Path.{◌≡◌}
 use Prim.Native.Nat.{◌-◌, ◌≤◌}
-use native.Mathlib.Nat.{le_trans}
-use native.Mathlib.Omega.{arith}
-use lib.ListN.{length, take, length-set}
+use lib.ListN.{length, take}
 use Rattle.written.specs.Lists.{total}
 use Rattle.machine.specs.Passes.{rewritten}
-use Rattle.machine.proofs.Rewritten.{rewritten-none}
-use Rattle.occurrences.proofs.Summing.{sum_more, sum_fits, start-more, start-last}
-use borrow.Author.Rules.{rules}
 use Rattle.occurrences.proofs.sums.Given as goal
 
 abbrev pub invariant-loop-l : goal.invariant-loop-l

@@ -1,7 +1,4 @@
-use mathlib.Core.Path.{sym}
-use lib.Seq.{length-take-le}
 use Rattle.occurrences.proofs.Rounding.{count-can, sum-can, put-can, turned_round_lem}
-use borrow.Author.Rules.{rules}
 use Rattle.occurrences.proofs.turn_round.Goals as goal
 
 pub start_runs-requires : goal.start_runs-requires

@@ -1,5 +1,4 @@
 -- `pages::put_byte` meets its contract: one byte stored is one byte put. Assumes nothing.
-use borrow.Author.Rules.{rules}
 use Rattle.pages.proofs.Putting.{put_byte}
 use Rattle.pages.proofs.put_byte.Goals as goal
 

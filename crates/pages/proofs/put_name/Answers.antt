@@ -1,11 +1,7 @@
 -- `pages::put_name` meets its contract: the bytes that are left make the name. Assumes nothing.
-use mathlib.Core.Path.{◌≡◌, refl, ◌∙◌}
-use mathlib.Core.List.{◌∷◌, []}
-use lib.ListN.{length}
-use borrow.Author.Rules.{rules}
-use Rattle.written.specs.Printed.{name_of}
-use Rattle.pages.specs.Pages.{page, put}
-use Rattle.pages.proofs.Pieces.{Left, begun, first_fits, onward, split, over}
+use mathlib.Core.Path.{refl, ◌∙◌}
+use mathlib.Core.List.{[]}
+use Rattle.pages.proofs.Pieces.{begun, first_fits, onward, split, over}
 use Rattle.pages.proofs.Spelt.{name-none, name-over, name-more}
 use Rattle.pages.proofs.put_name.Goals as goal
 
@@ -17,13 +13,10 @@ returns-then-rest-eq0 c = over (name-over _ _ c.if-rest-eq0.true) c.loop-left.in
 
 pub put_byte-next-requires : goal.put_byte-next-requires
 put_byte-next-requires c =
-    
     first_fits (split _ _ (name-more _ _ c.loop-left-test.true c.if-rest-eq0.false) c.loop-left.invariant.0)
 
 pub loop-left-preserved : goal.loop-left-preserved
 loop-left-preserved c =
-    
-    
     let inv = c.loop-left.invariant in
     (onward (split _ _ (name-more _ _ c.loop-left-test.true c.if-rest-eq0.false) inv.0) c.put_byte-next.ensures, c.put_byte-next.auto.out ∙ inv.1)
 

@@ -1,12 +1,10 @@
 -- `pages::put_name` meets its contract: the bytes that are left make the name. Assumes nothing.
-use mathlib.Core.Path.{◌≡◌, refl, ◌∙◌}
+use mathlib.Core.Path.{◌≡◌}
 use mathlib.Core.List.{◌∷◌, []}
 use lib.ListN.{length}
-use borrow.Author.Rules.{rules}
 use Rattle.written.specs.Printed.{name_of}
 use Rattle.pages.specs.Pages.{page, put}
-use Rattle.pages.proofs.Pieces.{Left, begun, first_fits, onward, split, over}
-use Rattle.pages.proofs.Spelt.{name-none, name-over, name-more}
+use Rattle.pages.proofs.Pieces.{Left}
 use Rattle.pages.proofs.put_name.Given as goal
 
 abbrev pub invariant-loop-left : goal.invariant-loop-left

@@ -1,6 +1,5 @@
 -- `pages::put_term` meets its contract: with the sign or without it. Assumes nothing.
 use mathlib.Core.List.{[]}
-use borrow.Author.Rules.{rules}
 use Rattle.pages.proofs.Pieces.{begun, first_fits, onward, split, ended}
 use Rattle.pages.proofs.Spelt.{signed_no, signed_yes}
 use Rattle.pages.proofs.put_term.Goals as goal

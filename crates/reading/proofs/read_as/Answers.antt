@@ -1,12 +1,11 @@
 -- `reading::read` meets its contract: tables that are too short stay; else the marks are cleared, and the text is read. Assumes nothing.
 -- the tables as they were lent: written out, since each fact about them would find them anew
-use mathlib.Core.Path.{refl, ap}
+use mathlib.Core.Path.{ap}
 use mathlib.Core.Bool.{not}
-use borrow.Author.Rules.{rules}
 use Rattle.written.specs.Limits.{narrow}
 use Rattle.written.specs.Numbered.{read_as}
 use Rattle.written.specs.Tables.{Tables, lent}
-use Rattle.reading.proofs.Decided.{was-short, tables-full, was-marked}
+use Rattle.reading.proofs.Decided.{tables-full, was-marked}
 use Rattle.reading.proofs.read_as.Lts as lts
 use Rattle.reading.proofs.read_as.Goals as goal
 

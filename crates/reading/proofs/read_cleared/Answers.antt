@@ -1,7 +1,5 @@
 -- `reading::read_cleared` meets its contract: refused, the tables are 0 again; whole, they are those written for the file. Assumes nothing.
-use mathlib.Core.Path.{refl, ◌∙◌}
 use native.Mathlib.Omega.{arith}
-use borrow.Author.Rules.{rules}
 use Rattle.written.specs.Limits.{narrow}
 use Rattle.written.specs.Numbered.{read_by}
 use Rattle.laws.proofs.NumberedReadings.{form-sound}

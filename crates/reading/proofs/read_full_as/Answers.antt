@@ -1,8 +1,6 @@
 -- `reading::read_full` meets its contract: the tables are cleared, and the text is read into them. Assumes nothing.
 -- the tables as they were lent: written out, since each fact about them would find them anew
-use mathlib.Core.Path.{refl, ◌∙◌}
 use native.Mathlib.Omega.{arith}
-use borrow.Author.Rules.{rules}
 use Rattle.written.specs.Limits.{narrow}
 use Rattle.written.specs.Numbered.{read_as}
 use Rattle.written.specs.Tables.{Tables, lent}

@@ -1,11 +1,10 @@
 -- `reading_draft::draft` meets its contract: what is drawn of a text of either form is its reading, laid in the tables. Assumes nothing.
 use mathlib.Core.Path.{refl}
 use native.Mathlib.Omega.{arith}
-use borrow.Author.Rules.{rules}
 use Rattle.written.specs.Limits.{narrow}
 use Rattle.names.specs.Finding.{homes}
-use Rattle.reading_end.proofs.Drawn.{can-draft, drawn_laying}
-use Rattle.reading_draft.proofs.Numbers.{can-number, numbers_laying}
+use Rattle.reading_end.proofs.Drawn.{drawn_laying}
+use Rattle.reading_draft.proofs.Numbers.{numbers_laying}
 use Rattle.reading_draft.proofs.draft.Goals as goal
 
 pub returns-in-Own : goal.returns-in-Own

@@ -1,5 +1,4 @@
 -- `reading_end::clear_draft` meets its contract: it is put together from its calls. Assumes nothing.
-use borrow.Author.Rules.{rules}
 use Rattle.written.specs.Tables.{sizes, full_sizes}
 use Rattle.reading_lines.specs.Drafting.{desk}
 use Rattle.reading_end.specs.Clearing.{wiped}

@@ -1,5 +1,4 @@
 -- `reading_end::clear_others` meets its contract: it is put together from its calls. Assumes nothing.
-use borrow.Author.Rules.{rules}
 use Rattle.words.specs.Words.{word_count}
 use Rattle.written.specs.Tables.{sizes, full_sizes}
 use Rattle.reading_end.specs.Clearing.{others, wiped_others}

@@ -1,10 +1,8 @@
 -- `reading_end::clear_rest` meets its contract: a loop over the entries from a place on. Assumes nothing.
-use mathlib.Core.Path.{◌≡◌, refl}
-use Prim.Native.Nat.{◌-◌, ◌≤◌}
+use mathlib.Core.Path.{refl}
 use native.Mathlib.Omega.{arith}
-use lib.ListN.{length, length-set}
-use borrow.Author.Rules.{rules}
-use Rattle.reading_end.proofs.Cleared.{passed_by, rest-none, rest_more, rest_end}
+use lib.ListN.{length-set}
+use Rattle.reading_end.proofs.Cleared.{rest-none, rest_more, rest_end}
 use Rattle.reading_end.proofs.clear_rest.Goals as goal
 
 pub loop-i-init : goal.loop-i-init

@@ -1,10 +1,8 @@
 -- `reading_end::clear_rest` meets its contract: a loop over the entries from a place on. Assumes nothing.
-use mathlib.Core.Path.{◌≡◌, refl}
+use mathlib.Core.Path.{◌≡◌}
 use Prim.Native.Nat.{◌-◌, ◌≤◌}
-use native.Mathlib.Omega.{arith}
-use lib.ListN.{length, length-set}
-use borrow.Author.Rules.{rules}
-use Rattle.reading_end.proofs.Cleared.{passed_by, rest-none, rest_more, rest_end}
+use lib.ListN.{length}
+use Rattle.reading_end.proofs.Cleared.{passed_by}
 use Rattle.reading_end.proofs.clear_rest.Given as goal
 
 abbrev pub invariant-loop-i : goal.invariant-loop-i

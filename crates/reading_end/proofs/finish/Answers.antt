@@ -1,7 +1,5 @@
 -- `reading_end::finish` meets its contract: it is put together from its calls. Assumes nothing.
-use mathlib.Core.Path.{◌∙◌}
 use native.Mathlib.Omega.{arith}
-use borrow.Author.Rules.{rules}
 use Rattle.reading_end.proofs.Finished.{can-turn, can_recount, can_close, number-low, is-finished}
 use Rattle.reading_end.proofs.finish.Goals as goal
 

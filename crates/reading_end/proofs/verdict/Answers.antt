@@ -1,5 +1,4 @@
 -- `reading_end::verdict` meets its contract: each way out has the tests that lead there. Assumes nothing.
-use borrow.Author.Rules.{rules}
 use Rattle.written.specs.Limits.{narrow}
 use Rattle.reading_end.proofs.Tests.{tests-long, tests_open, tests-passed}
 use Rattle.reading_end.proofs.verdict.Goals as goal

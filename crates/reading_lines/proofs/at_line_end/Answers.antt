@@ -1,5 +1,4 @@
 -- `reading_lines::at_line_end` meets its contract: each way out has the tests that lead there. Assumes nothing.
-use borrow.Author.Rules.{rules}
 use Rattle.written.specs.Limits.{narrow}
 use Rattle.reading_lines.proofs.Tokens.{nothing-held, no_room, line-closed}
 use Rattle.reading_lines.proofs.at_line_end.Goals as goal

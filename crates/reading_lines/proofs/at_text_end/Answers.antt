@@ -1,6 +1,5 @@
 -- `reading_lines::at_text_end` meets its contract: by whether a clause is kept. Assumes nothing.
 use mathlib.Core.Path.{refl}
-use borrow.Author.Rules.{rules}
 use borrow.Author.Tests.{eq-eqb, ne_eqb}
 use Rattle.reading_lines.specs.Turns.{after_text}
 use Rattle.reading_lines.proofs.at_text_end.Goals as goal

@@ -1,7 +1,5 @@
 -- `reading_lines::at_token` meets its contract: each token by the law of its turn. Assumes nothing.
 use mathlib.Core.Path.{refl}
-use native.Mathlib.Omega.{arith}
-use borrow.Author.Rules.{rules}
 use Rattle.written.specs.Limits.{narrow}
 use Rattle.written.specs.Reading.{at_token}
 use Rattle.names.specs.Finding.{homes}

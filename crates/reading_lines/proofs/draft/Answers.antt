@@ -1,12 +1,8 @@
 -- `reading_lines::draft` meets its contract: the loop goes on with a draft under way, and ends with the written reading. Assumes nothing.
-use mathlib.Core.Path.{◌∙◌}
 use native.Mathlib.Omega.{arith}
-use borrow.Author.Rules.{rules}
 use Rattle.written.specs.Limits.{narrow}
-use Rattle.laws.proofs.Fuel.{left}
 use Rattle.names.specs.Finding.{homes}
-use Rattle.reading_lines.specs.Drafting.{desk}
-use Rattle.reading_lines.proofs.Loop.{Underway, begun, going, line_low, turned_on}
+use Rattle.reading_lines.proofs.Loop.{begun, going, line_low, turned_on}
 use Rattle.reading_lines.proofs.draft.Goals as goal
 
 pub loop-q-init : goal.loop-q-init

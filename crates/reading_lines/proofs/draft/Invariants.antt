@@ -1,12 +1,9 @@
 -- `reading_lines::draft` meets its contract: the loop goes on with a draft under way, and ends with the written reading. Assumes nothing.
-use mathlib.Core.Path.{◌∙◌}
-use native.Mathlib.Omega.{arith}
-use borrow.Author.Rules.{rules}
 use Rattle.written.specs.Limits.{narrow}
 use Rattle.laws.proofs.Fuel.{left}
 use Rattle.names.specs.Finding.{homes}
 use Rattle.reading_lines.specs.Drafting.{desk}
-use Rattle.reading_lines.proofs.Loop.{Underway, begun, going, line_low, turned_on}
+use Rattle.reading_lines.proofs.Loop.{Underway}
 use Rattle.reading_lines.proofs.draft.Given as goal
 
 abbrev pub invariant-loop-q : goal.invariant-loop-q

@@ -1,6 +1,5 @@
 -- `reading_literal::literal` meets its contract: each way out has the test that leads there. Assumes nothing.
 use native.Mathlib.Omega.{arith}
-use borrow.Author.Rules.{rules}
 use Rattle.written.specs.Clauses.{literal_of}
 use Rattle.reading_literal.proofs.literal.Goals as goal
 

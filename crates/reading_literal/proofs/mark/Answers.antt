@@ -1,7 +1,5 @@
 -- `reading_literal::mark` meets its contract: the literal, and its place as a stamp. Assumes nothing.
 use native.Mathlib.Omega.{arith}
-use mathlib.Core.Path.{refl}
-use borrow.Author.Rules.{rules}
 use Rattle.laws.proofs.Literals.{literal-below}
 use Rattle.reading_literal.proofs.mark.Goals as goal
 

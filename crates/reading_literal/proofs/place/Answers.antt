@@ -1,6 +1,4 @@
 -- `reading_literal::place` meets its contract: each way out by how the literal stands to the line. Assumes nothing.
-use native.Mathlib.Omega.{arith}
-use borrow.Author.Rules.{rules}
 use Rattle.written.specs.Limits.{narrow}
 use Rattle.reading_literal.proofs.Takes.{place-skips, place-drops, place-full, place-holds}
 use Rattle.reading_literal.proofs.place.Goals as goal

@@ -1,8 +1,5 @@
 -- `reading_literal::seen` meets its contract: each way out by what the stamp shows. Assumes nothing.
 use mathlib.Core.Path.{sym, ◌∙◌}
-use native.Mathlib.Omega.{arith}
-use lib.ListN.{get_or}
-use borrow.Author.Rules.{rules}
 use Rattle.written.specs.Clauses.{term_of}
 use Rattle.reading_literal.proofs.Stamps.{stamp_before, stamp_after, stamp_of_another, stamp_same, stamp_opposite}
 use Rattle.reading_literal.proofs.seen.Goals as goal

@@ -1,9 +1,7 @@
 -- `reading_literal::take` meets its contract: each way out by the law of what the literal comes to. Assumes nothing.
 use native.Mathlib.Omega.{arith}
-use borrow.Author.Rules.{rules}
 use Rattle.written.specs.Limits.{narrow}
 use Rattle.names.specs.Finding.{homes}
-use Rattle.machine.proofs.Slots.{slot_in}
 use Rattle.reading_literal.specs.Taking.{by_slots}
 use Rattle.reading_literal.proofs.Takes.{can-place, placed_took, no_term, no_room-new, grows}
 use Rattle.reading_literal.proofs.take.Goals as goal

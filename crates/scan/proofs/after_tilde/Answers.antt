@@ -2,7 +2,6 @@
 use borrow.Author.Tests.{le-leb, lt-leb}
 use mathlib.Core.Path.{sym, ◌∙◌}
 use Rattle.scan.specs.Scan.{tilde}
-use borrow.Author.Rules.{rules}
 use Rattle.scan.proofs.after_tilde.Goals as goal
 
 pub returns-then-text-s : goal.returns-then-text-s
@@ -12,11 +11,9 @@ returns-then-text-s c = simp (le-leb _ _ c.if-text-s.true)
 pub returns-then-closes : goal.returns-then-closes
 unfolding tilde
 returns-then-closes c =
-    
     simp (lt-leb _ _ c.if-text-s.false, sym c.closes.ensures ∙ c.if-closes.true, c.skip-e.ensures)
 
 pub returns : goal.returns
 unfolding tilde
 returns c =
-    
     simp (lt-leb _ _ c.if-text-s.false, sym c.closes.ensures ∙ c.if-closes.false, c.name_at.ensures)

@@ -1,5 +1,4 @@
 -- `scan::in_numbers` meets its contract: each number is its function's. Assumes nothing.
-use borrow.Author.Rules.{rules}
 use Rattle.scan.specs.Scan.{told_of}
 use Rattle.scan.proofs.in_numbers.Goals as goal
 

@@ -5,7 +5,6 @@ use mathlib.Core.Path.{sym, ◌∙◌}
 use Rattle.scan.specs.Scan.{is_of, named, named_to}
 use Rattle.scan.specs.declared.Kind.TheVariants.{Name}
 use Rattle.scan.proofs.Laws.{past_ge}
-use borrow.Author.Rules.{rules}
 use Rattle.scan.proofs.name_at.Goals as goal
 
 pub overflow_sub-n : goal.overflow_sub-n
@@ -24,18 +23,15 @@ returns-then-text-e c = simp (sym c.name_run-run.ensures.0, le-ltb _ _ c.if-n-gt
 pub returns-then-n-eq0 : goal.returns-then-n-eq0
 unfolding named named_to
 returns-then-n-eq0 c =
-    
     simp (sym c.name_run-run.ensures.0, le-ltb _ _ c.if-n-gt8.false, lt-leb _ _ c.if-text-e.false, eq-eqb _ _ c.if-n-eq0.true)
 
 pub returns-then-closes : goal.returns-then-closes
 unfolding named named_to
 returns-then-closes c =
-    
     let run = c.name_run-run.ensures in
     simp (sym run.0, le-ltb _ _ c.if-n-gt8.false, lt-leb _ _ c.if-text-e.false, ne_eqb _ _ c.if-n-eq0.false, sym c.closes.ensures ∙ c.if-closes.true, run.1 c.if-n-gt8.false)
 
 pub returns-else-closes : goal.returns-else-closes
 unfolding named named_to
 returns-else-closes c =
-    
     simp (sym c.name_run-run.ensures.0, le-ltb _ _ c.if-n-gt8.false, lt-leb _ _ c.if-text-e.false, ne_eqb _ _ c.if-n-eq0.false, sym c.closes.ensures ∙ c.if-closes.false)

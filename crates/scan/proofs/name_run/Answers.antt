@@ -1,16 +1,14 @@
 -- `scan::name_run` meets its contract: the run from i ends where the run from s does, and what lies between is packed. Assumes nothing.
-use Prim.Native.Nat.{ℕ, ◌+◌, ◌-◌, ◌*◌, ◌^◌, ◌≤◌, ◌<◌}
+use Prim.Native.Nat.{ℕ, ◌-◌, ◌<◌}
 use native.Mathlib.Omega.{arith}
-use borrow.Author.Rules.{rules}
-use mathlib.Core.Path.{◌≡◌, refl, sym, ◌∙◌}
-use lib.ListN.{length, get_or, drop}
+use mathlib.Core.Path.{◌≡◌, sym, ◌∙◌}
+use lib.ListN.{drop}
 use mathlib.Core.Bool.{Bool, true}
-use lib.Dec.{lit<}
 use Rattle.scan.specs.declared.Kind.TheVariants.{Name}
-use Rattle.scan.specs.Scan.{is_of, past}
+use Rattle.scan.specs.Scan.{is_of}
 use Rattle.scan.proofs.Laws.{past_more, past_stop, past_end}
 use Rattle.scan.proofs.Names.{byte_high}
-use Rattle.scan.proofs.Packing.{Packing, packing_none, packing_room, packing_on}
+use Rattle.scan.proofs.Packing.{packing_room, packing_on}
 use Rattle.scan.proofs.name_run.Goals as goal
 
 -- a byte of a name is below 256

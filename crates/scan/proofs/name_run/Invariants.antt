@@ -1,20 +1,10 @@
 -- `scan::name_run` meets its contract: the run from i ends where the run from s does, and what lies between is packed. Assumes nothing.
-use Prim.Native.Nat.{◌+◌, ◌-◌, ◌*◌, ◌^◌, ◌≤◌, ◌<◌}
-use native.Mathlib.Omega.{arith}
-use borrow.Author.Rules.{rules}
-use borrow.Author.Tests.{not-true, not-false}
-use mathlib.Core.Path.{◌≡◌, refl, sym, ◌∙◌}
-use lib.ListN.{length, get_or, drop}
-use lib.Dec.{lit<}
+use Prim.Native.Nat.{◌-◌, ◌≤◌}
+use mathlib.Core.Path.{◌≡◌}
+use lib.ListN.{length, drop}
 use Rattle.scan.specs.declared.Kind.TheVariants.{Name}
 use Rattle.scan.specs.Scan.{is_of, past}
-use Rattle.scan.proofs.Laws.{past_more, past_stop, past_end}
-use Rattle.scan.proofs.Names.{byte_high}
-use Rattle.scan.proofs.Packing.{Packing, packing_none, packing_room, packing_on}
-use Rattle.scan.proofs.name_run.Reads as reads
-use Rattle.scan.proofs.name_run.Lts as lts
-use Rattle.scan.proofs.is.Reads as is-reads
-use Rattle.scan.proofs.widened.Reads as widened-reads
+use Rattle.scan.proofs.Packing.{Packing}
 use Rattle.scan.proofs.name_run.Given as goal
 
 abbrev pub invariant-loop-i : goal.invariant-loop-i

@@ -1,10 +1,6 @@
 -- `scan::skip` meets its contract: the run from i ends where the run from `at` does. Assumes nothing.
-use Prim.Native.Nat.{◌-◌}
-use native.Mathlib.Omega.{arith}
-use borrow.Author.Rules.{rules}
-use mathlib.Core.Path.{◌≡◌, refl, sym, ◌∙◌}
-use lib.ListN.{length}
-use Rattle.scan.specs.Scan.{is_of, past}
+use mathlib.Core.Path.{sym, ◌∙◌}
+use Rattle.scan.specs.Scan.{is_of}
 use Rattle.scan.proofs.Laws.{past_more, past_stop, past_end}
 use Rattle.scan.proofs.skip.Goals as goal
 

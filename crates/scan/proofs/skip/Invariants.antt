@@ -1,12 +1,8 @@
 -- `scan::skip` meets its contract: the run from i ends where the run from `at` does. Assumes nothing.
 use Prim.Native.Nat.{◌-◌}
-use native.Mathlib.Omega.{arith}
-use borrow.Author.Rules.{rules}
-use borrow.Author.Tests.{not-true, not-false}
-use mathlib.Core.Path.{◌≡◌, refl, sym, ◌∙◌}
+use mathlib.Core.Path.{◌≡◌}
 use lib.ListN.{length}
 use Rattle.scan.specs.Scan.{is_of, past}
-use Rattle.scan.proofs.Laws.{past_more, past_stop, past_end}
 use Rattle.scan.proofs.skip.Given as goal
 
 abbrev pub invariant-loop-i : goal.invariant-loop-i

@@ -1,6 +1,5 @@
 -- `tables::all_full` meets its contract: each way out has the tests that lead there. Assumes nothing.
 use mathlib.Core.Path.{refl}
-use borrow.Author.Rules.{rules}
 use Rattle.written.specs.Marks.{marks_full, full_marked}
 use Rattle.tables.proofs.all_full.Goals as goal
 

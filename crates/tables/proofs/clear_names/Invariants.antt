@@ -1,6 +1,5 @@
 use Prim.Native.Nat.{◌-◌}
-use borrow.Author.Rules.{rules}
-use Rattle.tables.proofs.Clearing.{Clearing, clear-begun, clear-more, clear-done}
+use Rattle.tables.proofs.Clearing.{Clearing}
 use Rattle.tables.proofs.clear_names.Given as goal
 
 abbrev pub invariant-loop-i : goal.invariant-loop-i

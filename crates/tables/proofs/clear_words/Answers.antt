@@ -1,6 +1,4 @@
-use Prim.Native.Nat.{◌-◌}
-use borrow.Author.Rules.{rules}
-use Rattle.tables.proofs.Clearing.{Clearing, clear-begun, clear-more, clear-done}
+use Rattle.tables.proofs.Clearing.{clear-begun, clear-more, clear-done}
 use Rattle.tables.proofs.clear_words.Goals as goal
 
 pub loop-i-init : goal.loop-i-init

@@ -1,6 +1,5 @@
 use mathlib.Core.Path.{refl}
 use Rattle.machine.specs.Uncovered.{enters}
-use borrow.Author.Rules.{rules}
 use Rattle.tables.proofs.enter.Goals as goal
 
 pub returns : goal.returns

@@ -4,7 +4,6 @@ use native.Mathlib.Omega.{arith}
 use Rattle.words.specs.Words.{bit_of, bit_at}
 use Rattle.written.specs.Clauses.{term_of}
 use Rattle.machine.specs.Literals.{value_in}
-use borrow.Author.Rules.{rules}
 use Rattle.tables.proofs.literal_value.Goals as goal
 
 pub overflow_add-result : goal.overflow_add-result

@@ -1,6 +1,5 @@
 use mathlib.Core.Path.{refl}
 use Rattle.written.specs.Agreement.{part_of}
-use borrow.Author.Rules.{rules}
 use Rattle.tables.proofs.part.Goals as goal
 
 pub returns : goal.returns

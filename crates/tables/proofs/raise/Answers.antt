@@ -1,6 +1,5 @@
 use mathlib.Core.Path.{refl}
 use Rattle.machine.specs.Tallies.{raised}
-use borrow.Author.Rules.{rules}
 use Rattle.tables.proofs.raise.Goals as goal
 
 pub returns : goal.returns

@@ -2,7 +2,6 @@ use mathlib.Core.Path.{◌∙◌}
 use borrow.Author.Tests.{ne_eqb}
 use Rattle.machine.specs.Literals.{term_if}
 use Rattle.written.specs.Clauses.{term_of}
-use borrow.Author.Rules.{rules}
 use Rattle.tables.proofs.term_if.Goals as goal
 
 pub returns-then-literal_value-eq1 : goal.returns-then-literal_value-eq1

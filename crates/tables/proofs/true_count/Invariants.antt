@@ -1,12 +1,8 @@
 use mathlib.Core.Path.{◌≡◌}
 use Prim.Native.Nat.{◌+◌, ◌-◌, ◌≤◌}
-use native.Mathlib.Nat.{zero-add}
-use native.Mathlib.Omega.{arith}
 use lib.ListN.{length, drop}
 use Rattle.written.specs.Lists.{total}
 use Rattle.machine.specs.Literals.{value_in}
-use Rattle.machine.proofs.Scanned.{value_low, count-more, count-done}
-use borrow.Author.Rules.{rules}
 use Rattle.tables.proofs.true_count.Given as goal
 
 abbrev pub invariant-loop-i : goal.invariant-loop-i

@@ -1,11 +1,8 @@
-use mathlib.Core.Path.{◌≡◌, refl}
+use mathlib.Core.Path.{◌≡◌}
 use Prim.Native.Nat.{◌-◌, ◌≤◌}
-use native.Mathlib.Omega.{arith}
 use lib.ListN.{length, drop}
 use lib.Bits.{bit_xor}
 use Rattle.machine.specs.Literals.{value_in, xor_true}
-use Rattle.machine.proofs.Scanned.{xor_more, xor_done}
-use borrow.Author.Rules.{rules}
 use Rattle.tables.proofs.xor_true.Given as goal
 
 abbrev pub invariant-loop-i : goal.invariant-loop-i

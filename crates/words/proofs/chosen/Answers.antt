@@ -1,6 +1,6 @@
 -- `words::chosen` meets its contract. The invariant: n is the number of true terms of the words passed. Assumes nothing.
 use mathlib.Core.Path.{◌≡◌, refl, ap, ◌∙◌}
-use Prim.Native.Nat.{◌≤◌, ◌*◌, ◌-◌, min}
+use Prim.Native.Nat.{◌*◌, min}
 use native.Mathlib.Omega.{arith}
 use lib.ListN.{length}
 use lib.Count.{ones-le}

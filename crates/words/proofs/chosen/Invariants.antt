@@ -1,12 +1,7 @@
 -- `words::chosen` meets its contract. The invariant: n is the number of true terms of the words passed. Assumes nothing.
-use mathlib.Core.Path.{◌≡◌, refl, ap, ◌∙◌}
-use Prim.Native.Nat.{◌≤◌, ◌*◌, ◌-◌, min}
-use native.Mathlib.Omega.{arith}
-use lib.ListN.{length}
-use lib.Count.{ones-le}
+use mathlib.Core.Path.{◌≡◌}
+use Prim.Native.Nat.{◌≤◌, ◌*◌, ◌-◌}
 use Rattle.words.specs.Words.{trues}
-use Rattle.words.proofs.Laws.{trues-least}
-use Rattle.words.proofs.Counts.{trues-word}
 use Rattle.words.proofs.chosen.Given as goal
 
 abbrev pub invariant-loop-k : goal.invariant-loop-k

@@ -1,11 +1,9 @@
 -- `words::fill` meets its contract. The invariant: k words are drawn, and the generator has drawn k times. Assumes nothing.
 use mathlib.Core.Path.{◌≡◌, refl, sym, ap, ap₂, ◌∙◌}
-use Prim.Native.Nat.{◌≤◌, ◌-◌}
 use native.Mathlib.Omega.{arith}
-use lib.ListN.{length}
 use Rattle.draw.specs.Xorshift.{next_of}
 use Rattle.draw.proofs.Laws.{draw-number, draw-next}
-use Rattle.words.specs.Words.{state_after, filled, put_at, word_count}
+use Rattle.words.specs.Words.{state_after, filled, put_at}
 use Rattle.words.proofs.Laws.{state-more, filled_more}
 use Rattle.words.proofs.fill.Goals as goal
 
@@ -16,7 +14,6 @@ loop-k-init c = (omega arith, refl, refl, refl)
 pub loop-k-preserved : goal.loop-k-preserved
 loop-k-preserved c =
     let d = c.drawn-d in
-    
     let a = c.args in
     let number : d.result.number ≡ next_of (state_after a.g.state c.loop-k.k) =
     ap (λ d. d.number) d.ensures ∙ draw-number _ ∙ ap next_of c.loop-k.invariant.2 in

@@ -1,12 +1,8 @@
 -- `words::fill` meets its contract. The invariant: k words are drawn, and the generator has drawn k times. Assumes nothing.
-use mathlib.Core.Path.{◌≡◌, refl, sym, ap, ap₂, ◌∙◌}
+use mathlib.Core.Path.{◌≡◌}
 use Prim.Native.Nat.{◌≤◌, ◌-◌}
-use native.Mathlib.Omega.{arith}
 use lib.ListN.{length}
-use Rattle.draw.specs.Xorshift.{next_of}
-use Rattle.draw.proofs.Laws.{draw-number, draw-next}
-use Rattle.words.specs.Words.{state_after, filled, put_at, word_count}
-use Rattle.words.proofs.Laws.{state-more, filled_more}
+use Rattle.words.specs.Words.{state_after, filled}
 use Rattle.words.proofs.fill.Given as goal
 
 abbrev pub invariant-loop-k : goal.invariant-loop-k

@@ -1,5 +1,4 @@
 -- `words::hold` meets its contract: each way out has the tests that lead there. Assumes nothing.
-use borrow.Author.Rules.{rules}
 use Rattle.words.proofs.Held.{hold-free, hold-kept, hold-turned}
 use Rattle.words.proofs.hold.Goals as goal
 

@@ -1,7 +1,6 @@
 -- `words::kept` meets its contract: a word before the last is kept whole, the last in part, and nothing past it. Assumes nothing.
 use native.Mathlib.Omega.{arith}
-use borrow.Author.Rules.{rules}
-use Rattle.words.proofs.Shifts.{one_shl_pos, whole-kept, part-kept, none_kept}
+use Rattle.words.proofs.Shifts.{whole-kept, part-kept, none_kept}
 use Rattle.words.proofs.kept.Goals as goal
 
 pub returns-then-k-n : goal.returns-then-k-n

@@ -1,7 +1,6 @@
 -- `words::put` meets its contract. Assumes nothing.
 use mathlib.Core.Path.{ap}
 use lib.ListN.{set}
-use borrow.Author.Rules.{rules}
 use Rattle.words.specs.Words.{put_at}
 use Rattle.words.proofs.Laws.{put-none}
 use Rattle.words.proofs.put.Goals as goal

@@ -1,5 +1,4 @@
 -- `words::turn` meets its contract: the one that is shifted stays in the word. Assumes nothing.
-use borrow.Author.Rules.{rules}
 use Rattle.words.proofs.Laws.{turn-past}
 use Rattle.words.proofs.Shifts.{one-turns}
 use Rattle.words.proofs.turn.Goals as goal

@@ -1,7 +1,6 @@
 -- `words::value` meets its contract: a mask of one digit is a remainder by 2. Assumes nothing.
 use mathlib.Core.Path.{sym}
 use lib.Bits.{and_mask}
-use borrow.Author.Rules.{rules}
 use Rattle.words.specs.Words.{bit_at, bit_of}
 use Rattle.words.proofs.Laws.{bit_past}
 use Rattle.words.proofs.value.Goals as goal

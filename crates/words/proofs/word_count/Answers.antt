@@ -1,6 +1,5 @@
 -- `words::word_count` meets its contract. Assumes nothing.
 use native.Mathlib.Omega.{arith}
-use borrow.Author.Rules.{rules}
 use Rattle.words.specs.Words.{word_count}
 use Rattle.words.proofs.word_count.Goals as goal
 

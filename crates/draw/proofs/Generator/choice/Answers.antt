@@ -1,5 +1,4 @@
 -- `draw::Generator::choice` meets its contract: each way out has the tests that lead there. Assumes nothing.
-use borrow.Author.Rules.{rules}
 use borrow.Author.Tests.{eq-eqb, ne_eqb}
 use Rattle.draw.specs.Draw.{choice_of}
 use Rattle.draw.proofs.Generator.choice.Goals as goal

@@ -1,5 +1,4 @@
 -- `draw::Generator::drawn` meets its contract: each way out has the test that leads there. Assumes nothing.
-use borrow.Author.Rules.{rules}
 use borrow.Author.Tests.{eq-eqb, ne_eqb}
 use Rattle.draw.specs.Draw.{draw_of}
 use Rattle.draw.proofs.Generator.drawn.Goals as goal

@@ -1,11 +1,8 @@
 -- `draw::Generator::even` meets its contract: what is drawn so far, with the draws that are left, gives what the whole gives. Assumes nothing.
-use mathlib.Core.Path.{◌≡◌, sym, ap, ◌∙◌}
-use Prim.Native.Nat.{◌<◌, ◌-◌}
+use mathlib.Core.Path.{sym, ap, ◌∙◌}
+use Prim.Native.Nat.{◌-◌}
 use native.Mathlib.Omega.{arith}
-use native.Mathlib.Nat.{mul-div-le}
-use borrow.Author.Rules.{rules}
 use borrow.Author.Tests.{eq-eqb, ne_eqb}
-use Rattle.draw.specs.Xorshift.{next_of}
 use Rattle.draw.specs.Even.{even_from, even_of}
 use Rattle.draw.proofs.Laws.{next-pos}
 use Rattle.draw.proofs.Evens.{even-taken, even-again, even-last}
@@ -29,18 +26,15 @@ loop-left-init c =
 
 pub returns-then-n-bound : goal.returns-then-n-bound
 returns-then-n-bound c =
-    
     c.given.ensures ∙ sym (even-taken c.loop-left.left _ c.loop-left.n c.if-n-bound.true) ∙ c.loop-left.invariant.1
 
 pub loop-left-preserved : goal.loop-left-preserved
-loop-left-preserved c =
-    (
-      omega (arith, next-pos c.loop-left.n c.loop-left.invariant.0, c.stepped-n-in-loop-left.ensures),
-      ap (even_from (c.loop-left.left - 1) _) c.stepped-n-in-loop-left.ensures
-          ∙ sym (even-again c.loop-left.left _ c.loop-left.n c.loop-left-test.true c.if-n-bound.false) ∙ c.loop-left.invariant.1,
-    )
+loop-left-preserved c = (
+  omega (arith, next-pos c.loop-left.n c.loop-left.invariant.0, c.stepped-n-in-loop-left.ensures),
+  ap (even_from (c.loop-left.left - 1) _) c.stepped-n-in-loop-left.ensures
+      ∙ sym (even-again c.loop-left.left _ c.loop-left.n c.loop-left-test.true c.if-n-bound.false) ∙ c.loop-left.invariant.1,
+)
 
 pub returns : goal.returns
 returns c =
-    
     c.given-2.ensures ∙ sym (even-last c.loop-left.left _ c.loop-left.n c.loop-left-test.false) ∙ c.loop-left.invariant.1

@@ -1,5 +1,4 @@
 -- `scan::Cursor::over` meets its contract: the line's end is passed, or the text's end is there. Assumes nothing.
-use borrow.Author.Rules.{rules}
 use Rattle.scan.proofs.Over.{at-text-end, at-line-end}
 use Rattle.scan.proofs.Cursor.over.Goals as goal
 
