@@ -1,7 +1,7 @@
 -- A reading in a run: refused, it is printed and the tables are 0; accepted, a walk can follow and goes over the file that was read. Assumes nothing.
 use Prim.Native.Nat.{ℕ, ◌+◌, ◌^◌, ◌≤◌, ◌<◌}
 use mathlib.Core.Logic.{◌⊎◌, inl, inr}
-use mathlib.Core.Path.{◌≡◌, refl, ap, sym, subst₂, ◌∙◌}
+use mathlib.Core.Path.{◌≡◌, ap, sym, subst₂, ◌∙◌}
 use mathlib.Core.Bool.{true≢false}
 use mathlib.Core.List.{List, []}
 use native.Mathlib.Omega.{arith}

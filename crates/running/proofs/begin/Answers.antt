@@ -1,7 +1,6 @@
 -- `running::begin` meets its contract: an input that is too long and a faulty sheet are refused; else the marks are cleared and the text is read.
 -- Assumes nothing.
 use native.Mathlib.Omega.{arith}
-use borrow.Author.Rules.{rules}
 use Rattle.written.specs.Limits.{narrow}
 use Rattle.running.proofs.Courses.{long-fits, long-ends, sheet-fits, sheet-ends, text-within, sheet-reads, text-ends}
 use Rattle.running.proofs.begin.Goals as goal

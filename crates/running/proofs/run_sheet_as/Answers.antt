@@ -2,8 +2,6 @@
 -- the tables as they were lent: written out, since each fact about them would find them anew
 use mathlib.Core.Path.{ap}
 use mathlib.Core.Bool.{not}
-use mathlib.Core.Path.{refl}
-use borrow.Author.Rules.{rules}
 use Rattle.written.specs.Limits.{narrow}
 use Rattle.written.specs.Tables.{Tables, lent}
 use Rattle.written.specs.Program.{report_size}

@@ -1,11 +1,9 @@
 -- `running_alone::run_read` meets its contract: what was read is run if it is the whole input, or more than one may have. Assumes nothing.
-use mathlib.Core.Path.{ap, sym, ◌∙◌}
-use lib.Seq.{length-take-le}
+use mathlib.Core.Path.{ap, ◌∙◌}
 use mir.Facts.{to_z-of_z}
-use borrow.Author.Rules.{rules}
 use Rattle.written.specs.Limits.{narrow}
 use Rattle.running_alone.specs.Seeing.{end_told}
-use Rattle.running_alone.proofs.Alone.{too_long, to_its_end, not-to_its_end}
+use Rattle.running_alone.proofs.Alone.{not-to_its_end}
 use Rattle.running_alone.proofs.run_read_as.Goals as goal
 
 pub returns : goal.returns

@@ -1,5 +1,4 @@
 -- `running_text::read_on` meets its contract: a refusal is printed; an accepted text is walked over. Assumes nothing.
-use mathlib.Core.Path.{◌∙◌}
 use native.Mathlib.Omega.{arith}
 use Rattle.written.specs.Limits.{narrow}
 use Rattle.written.specs.Numbered.{read_as}

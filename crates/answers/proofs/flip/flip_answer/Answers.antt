@@ -1,5 +1,4 @@
 -- `answers::flip::flip_answer` meets its contract: the values of each case. Assumes nothing.
-use borrow.Author.Rules.{rules}
 use Rattle.answers.specs.Answers.{flip_answer}
 use Rattle.answers.proofs.flip.flip_answer.Goals as goal
 

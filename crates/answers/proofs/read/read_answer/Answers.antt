@@ -1,5 +1,4 @@
 -- `answers::read::read_answer` meets its contract: the values of each case. Assumes nothing.
-use borrow.Author.Rules.{rules}
 use Rattle.answers.specs.Answers.{read_answer}
 use Rattle.answers.proofs.read.read_answer.Goals as goal
 

@@ -1,5 +1,4 @@
 -- `answers::walk::walk_answer` meets its contract: the values of each case. Assumes nothing.
-use borrow.Author.Rules.{rules}
 use Rattle.answers.specs.Answers.{walk_answer}
 use Rattle.answers.proofs.walk.walk_answer.Goals as goal
 

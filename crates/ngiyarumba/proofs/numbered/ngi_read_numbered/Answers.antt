@@ -1,5 +1,4 @@
 -- `ngiyarumba::numbered::ngi_read_numbered` meets its contract: it is `reading::read` of numbered text, its answer taken apart. Assumes nothing.
-use borrow.Author.Rules.{rules}
 use Rattle.written.specs.Numbered.{read_numbered}
 use Rattle.written.specs.Outcomes.{numbered_of}
 use Rattle.laws.proofs.Leaves.{told_as}
