@@ -4,3 +4,4 @@ pub mod Leaves
 pub mod Calls
 pub mod Inner
 pub mod Open
+pub mod Own
