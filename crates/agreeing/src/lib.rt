@@ -6,7 +6,7 @@
 ghost use Rattle.std.specs.Prelude.{◌≡◌, true, ◌&&◌};
 ghost use Rattle.written.specs.Limits.{narrow};
 ghost use Rattle.written.specs.Tables.{are_full};
-ghost use Rattle.written.specs.Lending.{lent_at, lent_before};
+ghost use Rattle.written.specs.Lending.{lent_at};
 ghost use Rattle.written.specs.Agreement.{counts_fit, agree};
 
 use written::Counts;
@@ -51,7 +51,7 @@ fn points_agree(
     requires { (are_full narrow (lent_at names.now values.now starts.now literals.now occurrence_starts.now occurrences.now trues.now breaks.now
         uncovered.now places.now) ≡ true)
         × (counts_fit narrow n ≡ true) }
-    ensures { result ≡ agree narrow n (lent_before names.now values.now starts.now literals.now occurrence_starts.now occurrences.now trues.now
+    ensures { result ≡ agree narrow n (lent_at names.now values.now starts.now literals.now occurrence_starts.now occurrences.now trues.now
         breaks.now uncovered.now places.now) }
 {
     if agreeing_file::clauses_hold(n, names, starts, literals, occurrence_starts, occurrences) {
@@ -99,9 +99,9 @@ pub fn agrees(
     uncovered: &[u16],
     places: &[u16],
 ) -> bool
-    ensures { result ≡ (are_full narrow (lent_before names.now values.now starts.now literals.now occurrence_starts.now occurrences.now trues.now
+    ensures { result ≡ (are_full narrow (lent_at names.now values.now starts.now literals.now occurrence_starts.now occurrences.now trues.now
         breaks.now uncovered.now places.now)
-        && agree narrow n (lent_before names.now values.now starts.now literals.now occurrence_starts.now occurrences.now trues.now breaks.now
+        && agree narrow n (lent_at names.now values.now starts.now literals.now occurrence_starts.now occurrences.now trues.now breaks.now
         uncovered.now places.now)) }
 {
     if tables::are_full(

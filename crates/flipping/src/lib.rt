@@ -6,9 +6,9 @@
 ghost use Rattle.std.specs.Prelude.{◌≡◌, ◌+◌, ◌-◌, ◌≤◌, ◌<◌, length, get_or, set};
 ghost use Rattle.written.specs.Lists.{steps};
 ghost use Rattle.machine.specs.Uncovered.{uncovered, leaves, CanLeave};
-ghost use Rattle.machine.specs.Tallies.{tallies_at, tallies_before, tallies_after, lowered, CanLower, pick_of};
+ghost use Rattle.machine.specs.Tallies.{tallies_at, lowered, CanLower, pick_of};
 ghost use Rattle.machine.specs.Tallies.{below_of, gain_one, lose_one, CanGain, CanLose, CanSteps};
-ghost use Rattle.machine.specs.Moving.{moving_at, moving_before, moving_after, occurring, up_of, flip_term, CanFlip};
+ghost use Rattle.machine.specs.Moving.{moving_at, occurring, up_of, flip_term, CanFlip};
 
 // One less at k.
 fn lower(counts: &mut [u16], k: usize)
@@ -80,8 +80,8 @@ fn gain_one(
     c: u16,
 ) -> usize
     requires { CanGain 65536 v c (tallies_at trues.old breaks.old list.old places.old number) × (v < 65536) }
-    ensures { tallies_after trues.new breaks.new list.new places.new result
-        ≡ gain_one v c (tallies_before trues.old breaks.old list.old places.old number) }
+    ensures { tallies_at trues.new breaks.new list.new places.new result
+        ≡ gain_one v c (tallies_at trues.old breaks.old list.old places.old number) }
 {
     let at = c as usize;
     let k = trues[at];
@@ -108,8 +108,8 @@ fn lose_one(
     c: u16,
 ) -> usize
     requires { CanLose 65536 v c (tallies_at trues.old breaks.old list.old places.old number) × (v < 65536) }
-    ensures { tallies_after trues.new breaks.new list.new places.new result
-        ≡ lose_one v c (tallies_before trues.old breaks.old list.old places.old number) }
+    ensures { tallies_at trues.new breaks.new list.new places.new result
+        ≡ lose_one v c (tallies_at trues.old breaks.old list.old places.old number) }
 {
     let at = c as usize;
     let k = trues[at];
@@ -136,8 +136,8 @@ fn gain_run(
     v: usize,
 ) -> usize
     requires { CanSteps (CanGain 65536 v) (gain_one v) run.now (tallies_at trues.old breaks.old list.old places.old number) × (v < 65536) }
-    ensures { tallies_after trues.new breaks.new list.new places.new result
-        ≡ steps (gain_one v) run.now (tallies_before trues.old breaks.old list.old places.old number) }
+    ensures { tallies_at trues.new breaks.new list.new places.new result
+        ≡ steps (gain_one v) run.now (tallies_at trues.old breaks.old list.old places.old number) }
 {
     let mut n = number;
     let mut i = 0;
@@ -159,8 +159,8 @@ fn lose_run(
     v: usize,
 ) -> usize
     requires { CanSteps (CanLose 65536 v) (lose_one v) run.now (tallies_at trues.old breaks.old list.old places.old number) × (v < 65536) }
-    ensures { tallies_after trues.new breaks.new list.new places.new result
-        ≡ steps (lose_one v) run.now (tallies_before trues.old breaks.old list.old places.old number) }
+    ensures { tallies_at trues.new breaks.new list.new places.new result
+        ≡ steps (lose_one v) run.now (tallies_at trues.old breaks.old list.old places.old number) }
 {
     let mut n = number;
     let mut i = 0;
@@ -193,9 +193,9 @@ pub fn flip_term(
 ) -> usize
     requires { CanFlip 65536 (occurring occurrence_starts.now occurrences.now) v
         (moving_at values.old trues.old breaks.old list.old places.old number) }
-    ensures { moving_after values.new trues.new breaks.new list.new places.new result
+    ensures { moving_at values.new trues.new breaks.new list.new places.new result
         ≡ flip_term (occurring occurrence_starts.now occurrences.now) v
-        (moving_before values.old trues.old breaks.old list.old places.old number) }
+        (moving_at values.old trues.old breaks.old list.old places.old number) }
 {
     let up = up_literal(values, v);
     words::turn(values, v);
@@ -221,9 +221,9 @@ pub fn flip_all(
     requires { CanSteps (CanFlip 65536 (occurring occurrence_starts.now occurrences.now))
         (flip_term (occurring occurrence_starts.now occurrences.now)) terms.now
         (moving_at values.old trues.old breaks.old list.old places.old number) }
-    ensures { moving_after values.new trues.new breaks.new list.new places.new result
+    ensures { moving_at values.new trues.new breaks.new list.new places.new result
         ≡ steps (flip_term (occurring occurrence_starts.now occurrences.now)) terms.now
-        (moving_before values.old trues.old breaks.old list.old places.old number) }
+        (moving_at values.old trues.old breaks.old list.old places.old number) }
 {
     let mut n = number;
     let mut k = 0;

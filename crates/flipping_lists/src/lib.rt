@@ -6,12 +6,12 @@ ghost use Rattle.std.specs.Prelude.{◌≡◌, [], ltb};
 ghost use Rattle.written.specs.declared.Flipped.TheVariants.{Applied};
 ghost use Rattle.written.specs.Lists.{all};
 ghost use Rattle.written.specs.Limits.{narrow};
-ghost use Rattle.written.specs.Lending.{lent_at, lent_before, lent_after};
+ghost use Rattle.written.specs.Lending.{lent_at};
 ghost use Rattle.written.specs.Agreement.{state_in};
 ghost use Rattle.written.specs.Marks.{is_free};
 ghost use Rattle.written.specs.Flips.{flipped};
 ghost use Rattle.written.specs.Outcomes.{leaves, ten, ten_of, flips_leave, flips_of};
-ghost use Rattle.machine.specs.Moving.{fixed_at, fixed_before, moving_at, moving_before, moving_after};
+ghost use Rattle.machine.specs.Moving.{fixed_at, moving_at};
 ghost use Rattle.machine.specs.Passes.{applied, CanApply};
 ghost use Rattle.flipping_lists.specs.Tests.{tests_of, terms_tested, CanFlipList};
 
@@ -85,7 +85,7 @@ fn verdict(
     marks: &[u8],
 ) -> Tested
     ensures { result ≡ tests_of narrow list.now n
-        (lent_before names.now values.now starts.now literals.now occurrence_starts.now occurrences.now trues.now breaks.now uncovered.now
+        (lent_at names.now values.now starts.now literals.now occurrence_starts.now occurrences.now trues.now breaks.now uncovered.now
         places.now) marks.now }
 {
     if !tables::all_full(
@@ -143,9 +143,9 @@ fn flip_list(
 ) -> usize
     requires { CanApply 65536 clauses (fixed_at starts.now literals.now occurrence_starts.now occurrences.now) list.now
         (moving_at values.old trues.old breaks.old uncovered.old places.old number) }
-    ensures { moving_after values.new trues.new breaks.new uncovered.new places.new result
-        ≡ applied clauses (fixed_before starts.now literals.now occurrence_starts.now occurrences.now) list.now
-        (moving_before values.old trues.old breaks.old uncovered.old places.old number) }
+    ensures { moving_at values.new trues.new breaks.new uncovered.new places.new result
+        ≡ applied clauses (fixed_at starts.now literals.now occurrence_starts.now occurrences.now) list.now
+        (moving_at values.old trues.old breaks.old uncovered.old places.old number) }
 {
     recounts::open_all(clauses, values, starts, literals, trues, places);
     let m = flipping::flip_all(
@@ -192,11 +192,11 @@ pub fn flip_agreeing(
 ) -> Counts
     requires { CanFlipList narrow list.now n (lent_at names.now values.old starts.now literals.now occurrence_starts.now occurrences.now trues.old
         breaks.old uncovered.old places.old) }
-    ensures { ten (Applied result) (lent_after names.now values.new starts.now literals.now occurrence_starts.now occurrences.now trues.new
+    ensures { ten (Applied result) (lent_at names.now values.new starts.now literals.now occurrence_starts.now occurrences.now trues.new
         breaks.new uncovered.new places.new)
-        ≡ ten_of (flips_leave narrow (lent_before names.now values.old starts.now literals.now occurrence_starts.now occurrences.now trues.old
+        ≡ ten_of (flips_leave narrow (lent_at names.now values.old starts.now literals.now occurrence_starts.now occurrences.now trues.old
         breaks.old uncovered.old places.old) []
-        (flipped list.now (state_in n (lent_before names.now values.old starts.now literals.now occurrence_starts.now occurrences.now trues.old
+        (flipped list.now (state_in n (lent_at names.now values.old starts.now literals.now occurrence_starts.now occurrences.now trues.old
         breaks.old uncovered.old places.old)))) }
 {
     let number = flip_list(
@@ -232,9 +232,9 @@ pub fn apply(
     places: &mut [u16],
     marks: &[u8],
 ) -> Flipped
-    ensures { leaves result (lent_after names.now values.new starts.now literals.now occurrence_starts.now occurrences.now trues.new breaks.new
+    ensures { leaves result (lent_at names.now values.new starts.now literals.now occurrence_starts.now occurrences.now trues.new breaks.new
         uncovered.new places.new) marks.now
-        ≡ flips_of narrow list.now n (lent_before names.now values.old starts.now literals.now occurrence_starts.now occurrences.now trues.old
+        ≡ flips_of narrow list.now n (lent_at names.now values.old starts.now literals.now occurrence_starts.now occurrences.now trues.old
         breaks.old uncovered.old places.old)
         marks.now }
 {

@@ -20,12 +20,6 @@ fixed s l o c = record { starts = s; literals = l; occurrence_starts = o; occurr
 abbrev pub fixed_at : Held → Held → Held → Held → Fixed
 fixed_at s l o c = fixed s l o c
 
-abbrev pub fixed_before : Held → Held → Held → Held → Fixed
-fixed_before s l o c = fixed_at s l o c
-
-abbrev pub fixed_after : Held → Held → Held → Held → Fixed
-fixed_after s l o c = fixed_at s l o c
-
 -- what a flip reads: no clause
 abbrev pub occurring : List ℕ → List ℕ → Fixed
 occurring o c = fixed [] [] o c
@@ -40,12 +34,6 @@ moving ws t = record { words = ws; tallies = t }
 
 abbrev pub moving_at : Held → Held → Held → Held → Held → ℕ → Moving
 moving_at ws ts bs us ps n = moving ws (tallies_at ts bs us ps n)
-
-abbrev pub moving_before : Held → Held → Held → Held → Held → ℕ → Moving
-moving_before ws ts bs us ps n = moving_at ws ts bs us ps n
-
-abbrev pub moving_after : Held → Held → Held → Held → Held → ℕ → Moving
-moving_after ws ts bs us ps n = moving_at ws ts bs us ps n
 
 -- what is read of a clause: the value words, clause starts, literals
 pub record View : Type 0 where

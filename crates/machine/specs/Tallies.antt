@@ -18,12 +18,6 @@ tallies ts bs us ps n = record { trues = ts; breaks = bs; uncovered = record { l
 abbrev pub tallies_at : Held → Held → Held → Held → ℕ → Tallies
 tallies_at ts bs us ps n = tallies ts bs us ps n
 
-abbrev pub tallies_before : Held → Held → Held → Held → ℕ → Tallies
-tallies_before ts bs us ps n = tallies_at ts bs us ps n
-
-abbrev pub tallies_after : Held → Held → Held → Held → ℕ → Tallies
-tallies_after ts bs us ps n = tallies_at ts bs us ps n
-
 -- entry k one more, and one less
 unfoldable pub raised : List ℕ → ℕ → List ℕ
 raised xs k = set xs k (get_or xs k 0 + 1)

@@ -7,7 +7,7 @@ ghost use Rattle.std.specs.Prelude.{◌≡◌, ◌&&◌, ◌≤◌, length, eqb}
 ghost use Rattle.words.specs.Words.{bit_at};
 ghost use Rattle.written.specs.Lists.{all, list_of};
 ghost use Rattle.written.specs.Limits.{narrow};
-ghost use Rattle.written.specs.Lending.{lent_before};
+ghost use Rattle.written.specs.Lending.{lent_at};
 ghost use Rattle.written.specs.Marks.{full_marked, marks_hold, marks_rest, agree_marked};
 ghost use Rattle.marked.specs.Tests.{as_marked};
 
@@ -96,10 +96,10 @@ pub fn agrees(
     places: &[u16],
     marks: &[u8],
 ) -> bool
-    ensures { result ≡ (full_marked narrow (lent_before names.now values.now starts.now literals.now occurrence_starts.now occurrences.now trues.now
+    ensures { result ≡ (full_marked narrow (lent_at names.now values.now starts.now literals.now occurrence_starts.now occurrences.now trues.now
         breaks.now uncovered.now places.now)
         marks.now
-        && agree_marked narrow n (lent_before names.now values.now starts.now literals.now occurrence_starts.now occurrences.now trues.now breaks.now
+        && agree_marked narrow n (lent_at names.now values.now starts.now literals.now occurrence_starts.now occurrences.now trues.now breaks.now
         uncovered.now places.now)
         marks.now) }
 {

@@ -1,7 +1,7 @@
 // A flip list for C.
 ghost use Rattle.std.specs.Prelude.{◌≡◌};
 ghost use Rattle.written.specs.Limits.{narrow};
-ghost use Rattle.written.specs.Lending.{lent_before, lent_after};
+ghost use Rattle.written.specs.Lending.{lent_at};
 ghost use Rattle.written.specs.Outcomes.{leaves, told, flips_of};
 ghost use Rattle.answers.specs.Answers.{flip_answer, counts};
 
@@ -28,11 +28,11 @@ pub extern "C" fn ngi_flip(
     marks: &[u8],
 ) -> FlipAnswer
     ensures { leaves result
-        (lent_after names.now values.new starts.now literals_table.now occurrence_starts.now occurrences.now true_counts.new break_counts.new
+        (lent_at names.now values.new starts.now literals_table.now occurrence_starts.now occurrences.now true_counts.new break_counts.new
         uncovered_list.new places.new)
         marks.now
         ≡ told flip_answer (flips_of narrow list.now (counts terms clauses literals uncovered)
-        (lent_before names.now values.old starts.now literals_table.now occurrence_starts.now occurrences.now true_counts.old break_counts.old
+        (lent_at names.now values.old starts.now literals_table.now occurrence_starts.now occurrences.now true_counts.old break_counts.old
         uncovered_list.old places.old)
         marks.now) }
 {

@@ -1,7 +1,7 @@
 // A reading of numbered text for C.
 ghost use Rattle.std.specs.Prelude.{◌≡◌};
 ghost use Rattle.written.specs.Limits.{narrow};
-ghost use Rattle.written.specs.Lending.{lent_before, lent_after};
+ghost use Rattle.written.specs.Lending.{lent_at};
 ghost use Rattle.written.specs.Outcomes.{leaves, told, numbered_of};
 ghost use Rattle.answers.specs.Answers.{read_answer};
 
@@ -24,11 +24,11 @@ pub extern "C" fn ngi_read_numbered(
     marks: &mut [u8],
 ) -> ReadAnswer
     ensures { leaves result
-        (lent_after names.new values.new starts.new literals_table.new occurrence_starts.new occurrences.new true_counts.new break_counts.new
+        (lent_at names.new values.new starts.new literals_table.new occurrence_starts.new occurrences.new true_counts.new break_counts.new
         uncovered_list.new places.new)
         marks.new
         ≡ told read_answer (numbered_of narrow text.now
-        (lent_before names.old values.old starts.old literals_table.old occurrence_starts.old occurrences.old true_counts.old break_counts.old
+        (lent_at names.old values.old starts.old literals_table.old occurrence_starts.old occurrences.old true_counts.old break_counts.old
         uncovered_list.old places.old)
         marks.old) }
 {

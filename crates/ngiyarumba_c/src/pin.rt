@@ -1,7 +1,7 @@
 // Pins and lifts for C.
 ghost use Rattle.std.specs.Prelude.{◌≡◌};
 ghost use Rattle.written.specs.Limits.{narrow};
-ghost use Rattle.written.specs.Lending.{lent_before, lent_after};
+ghost use Rattle.written.specs.Lending.{lent_at};
 ghost use Rattle.written.specs.Outcomes.{leaves, told, pin_of, lift_of};
 ghost use Rattle.answers.specs.Answers.{flip_answer, counts};
 
@@ -29,11 +29,11 @@ pub extern "C" fn ngi_pin(
     marks: &mut [u8],
 ) -> FlipAnswer
     ensures { leaves result
-        (lent_after names.now values.new starts.now literals_table.now occurrence_starts.now occurrences.now true_counts.new break_counts.new
+        (lent_at names.now values.new starts.now literals_table.now occurrence_starts.now occurrences.now true_counts.new break_counts.new
         uncovered_list.new places.new)
         marks.new
         ≡ told flip_answer (pin_of narrow term value (counts terms clauses literals uncovered)
-        (lent_before names.now values.old starts.now literals_table.now occurrence_starts.now occurrences.now true_counts.old break_counts.old
+        (lent_at names.now values.old starts.now literals_table.now occurrence_starts.now occurrences.now true_counts.old break_counts.old
         uncovered_list.old places.old)
         marks.old) }
 {
@@ -79,11 +79,11 @@ pub extern "C" fn ngi_lift(
     marks: &mut [u8],
 ) -> FlipAnswer
     ensures { leaves result
-        (lent_after names.now values.now starts.now literals_table.now occurrence_starts.now occurrences.now true_counts.now break_counts.now
+        (lent_at names.now values.now starts.now literals_table.now occurrence_starts.now occurrences.now true_counts.now break_counts.now
         uncovered_list.now places.now)
         marks.new
         ≡ told flip_answer (lift_of narrow term (counts terms clauses literals uncovered)
-        (lent_before names.now values.now starts.now literals_table.now occurrence_starts.now occurrences.now true_counts.now break_counts.now
+        (lent_at names.now values.now starts.now literals_table.now occurrence_starts.now occurrences.now true_counts.now break_counts.now
         uncovered_list.now places.now)
         marks.old) }
 {

@@ -1,7 +1,7 @@
 // A walk for C.
 ghost use Rattle.std.specs.Prelude.{◌≡◌};
 ghost use Rattle.written.specs.Limits.{narrow};
-ghost use Rattle.written.specs.Lending.{lent_before, lent_after};
+ghost use Rattle.written.specs.Lending.{lent_at};
 ghost use Rattle.written.specs.Outcomes.{leaves, told, walk_of};
 ghost use Rattle.answers.specs.Answers.{order, counts, walk_answer};
 
@@ -32,11 +32,11 @@ pub extern "C" fn ngi_walk(
     marks: &[u8],
 ) -> WalkAnswer
     ensures { leaves result
-        (lent_after names.now values.new starts.now literals_table.now occurrence_starts.now occurrences.now true_counts.new break_counts.new
+        (lent_at names.now values.new starts.now literals_table.now occurrence_starts.now occurrences.now true_counts.new break_counts.new
         uncovered_list.new places.new)
         marks.now
         ≡ told walk_answer (walk_of narrow (order seed flips walks bias even) (counts terms clauses literals uncovered)
-        (lent_before names.now values.old starts.now literals_table.now occurrence_starts.now occurrences.now true_counts.old break_counts.old
+        (lent_at names.now values.old starts.now literals_table.now occurrence_starts.now occurrences.now true_counts.old break_counts.old
         uncovered_list.old places.old)
         marks.now) }
 {

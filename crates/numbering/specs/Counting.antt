@@ -30,12 +30,6 @@ count s l m = record { starts = s; literals = l; stamps = m }
 abbrev pub count_at : Held → Held → Held → Count
 count_at s l m = count s l m
 
-abbrev pub count_before : Held → Held → Held → Count
-count_before s l m = count_at s l m
-
-abbrev pub count_after : Held → Held → Held → Count
-count_after s l m = count_at s l m
-
 -- these among the tables of a draft, beside the names and the slots
 abbrev pub desk_with : List ℕ → List ℕ → Count → Desk
 desk_with ns os k = desk ns k.starts k.literals k.stamps os

@@ -12,7 +12,7 @@ ghost use Rattle.written.specs.declared.Numeral.TheVariants.{Number};
 ghost use Rattle.laws.proofs.NumeralSteps.{line_in};
 ghost use Rattle.reading_lines.specs.declared.Ended.TheVariants.{Refused};
 ghost use Rattle.numbering.specs.Passes.{pass_of, zero_end, after_zero, after_numbers};
-ghost use Rattle.numbering.specs.Counting.{count_at, count_before, count_after, CanCount, CountsBy, CanBegin, Counted, CanDraw, Drawn};
+ghost use Rattle.numbering.specs.Counting.{count_at, CanCount, CountsBy, CanBegin, Counted, CanDraw, Drawn};
 
 use reading_lines::{Ended, Next, Place};
 use scan::Cursor;
@@ -115,7 +115,7 @@ fn at_number(
     x: Signed,
 ) -> Pass
     requires { CanCount narrow h (count_at starts.old literals.old stamps.old) g × (x.line < 2 ^ 32) }
-    ensures { CountsBy narrow h (Number x) (count_before starts.old literals.old stamps.old) g (count_after starts.new literals.new stamps.new) result }
+    ensures { CountsBy narrow h (Number x) (count_at starts.old literals.old stamps.old) g (count_at starts.new literals.new stamps.new) result }
 {
     let line = x.line;
     let number = x.number;
@@ -161,7 +161,7 @@ fn at_numeral(
     k: Numeral,
 ) -> Pass
     requires { CanCount narrow h (count_at starts.old literals.old stamps.old) g × (line_in k < 2 ^ 32) }
-    ensures { CountsBy narrow h k (count_before starts.old literals.old stamps.old) g (count_after starts.new literals.new stamps.new) result }
+    ensures { CountsBy narrow h k (count_at starts.old literals.old stamps.old) g (count_at starts.new literals.new stamps.new) result }
 {
     match k {
         Numeral::Number(x) => at_number(starts, literals, stamps, h, g, x),
@@ -180,7 +180,7 @@ fn numbers(
     line: usize,
 ) -> Ended
     requires { CanBegin narrow text.now h line (count_at starts.old literals.old stamps.old) }
-    ensures { Counted narrow text.now h line (count_before starts.old literals.old stamps.old) (count_after starts.new literals.new stamps.new) result }
+    ensures { Counted narrow text.now h line (count_at starts.old literals.old stamps.old) (count_at starts.new literals.new stamps.new) result }
 {
     let mut c = Cursor { at: h.end, line };
     let mut g = Going {
@@ -234,8 +234,8 @@ pub fn draft(
     stamps: &mut [u16],
 ) -> Ended
     requires { CanDraw narrow text.now names.old (count_at starts.old literals.old stamps.old) }
-    ensures { Drawn narrow text.now names.old (count_before starts.old literals.old stamps.old)
-        names.new (count_after starts.new literals.new stamps.new) result }
+    ensures { Drawn narrow text.now names.old (count_at starts.old literals.old stamps.old)
+        names.new (count_at starts.new literals.new stamps.new) result }
 {
     let c = numerals::past_comments(text);
     let at = c.at;

@@ -5,7 +5,7 @@
 ghost use Rattle.std.specs.Prelude.{◌≡◌, [], ◌∷◌, ◌+◌, ◌<◌, length, set};
 ghost use Rattle.written.specs.declared.Flipped.TheVariants.{Applied};
 ghost use Rattle.written.specs.Limits.{narrow};
-ghost use Rattle.written.specs.Lending.{lent_at, lent_before, lent_after};
+ghost use Rattle.written.specs.Lending.{lent_at};
 ghost use Rattle.written.specs.Agreement.{state_in};
 ghost use Rattle.written.specs.Flips.{flipped};
 ghost use Rattle.written.specs.Outcomes.{leaves, ten, ten_of, flips_leave, value_asked, flips_for, pin_of, lift_of};
@@ -30,7 +30,7 @@ fn verdict(
     places: &[u16],
     marks: &[u8],
 ) -> Tested
-    ensures { result ≡ tests_of narrow term n (lent_before names.now values.now starts.now literals.now occurrence_starts.now occurrences.now
+    ensures { result ≡ tests_of narrow term n (lent_at names.now values.now starts.now literals.now occurrence_starts.now occurrences.now
         trues.now breaks.now uncovered.now places.now)
         marks.now }
 {
@@ -111,14 +111,14 @@ fn flip_to(
 ) -> Counts
     requires { CanFlipList narrow (term ∷ []) n (lent_at names.now values.old starts.now literals.now occurrence_starts.now occurrences.now trues.old
         breaks.old uncovered.old places.old) }
-    ensures { ten (Applied result) (lent_after names.now values.new starts.now literals.now occurrence_starts.now occurrences.now trues.new
+    ensures { ten (Applied result) (lent_at names.now values.new starts.now literals.now occurrence_starts.now occurrences.now trues.new
         breaks.new uncovered.new places.new)
-        ≡ ten_of (flips_leave narrow (lent_before names.now values.old starts.now literals.now occurrence_starts.now occurrences.now trues.old
+        ≡ ten_of (flips_leave narrow (lent_at names.now values.old starts.now literals.now occurrence_starts.now occurrences.now trues.old
         breaks.old uncovered.old places.old) []
         (flipped
-        (flips_for term (value_asked value) (state_in n (lent_before names.now values.old starts.now literals.now occurrence_starts.now
+        (flips_for term (value_asked value) (state_in n (lent_at names.now values.old starts.now literals.now occurrence_starts.now
         occurrences.now trues.old breaks.old uncovered.old places.old)))
-        (state_in n (lent_before names.now values.old starts.now literals.now occurrence_starts.now occurrences.now trues.old breaks.old
+        (state_in n (lent_at names.now values.old starts.now literals.now occurrence_starts.now occurrences.now trues.old breaks.old
         uncovered.old places.old)))) }
 {
     if words::value(values, term) == asked(value) {
@@ -157,9 +157,9 @@ pub fn pin(
     places: &mut [u16],
     marks: &mut [u8],
 ) -> Flipped
-    ensures { leaves result (lent_after names.now values.new starts.now literals.now occurrence_starts.now occurrences.now trues.new breaks.new
+    ensures { leaves result (lent_at names.now values.new starts.now literals.now occurrence_starts.now occurrences.now trues.new breaks.new
         uncovered.new places.new) marks.new
-        ≡ pin_of narrow term value n (lent_before names.now values.old starts.now literals.now occurrence_starts.now occurrences.now trues.old
+        ≡ pin_of narrow term value n (lent_at names.now values.old starts.now literals.now occurrence_starts.now occurrences.now trues.old
         breaks.old uncovered.old places.old)
         marks.old }
 {
@@ -220,9 +220,9 @@ pub fn lift(
     places: &[u16],
     marks: &mut [u8],
 ) -> Flipped
-    ensures { leaves result (lent_after names.now values.now starts.now literals.now occurrence_starts.now occurrences.now trues.now breaks.now
+    ensures { leaves result (lent_at names.now values.now starts.now literals.now occurrence_starts.now occurrences.now trues.now breaks.now
         uncovered.now places.now) marks.new
-        ≡ lift_of narrow term n (lent_before names.now values.now starts.now literals.now occurrence_starts.now occurrences.now trues.now breaks.now
+        ≡ lift_of narrow term n (lent_at names.now values.now starts.now literals.now occurrence_starts.now occurrences.now trues.now breaks.now
         uncovered.now places.now)
         marks.old }
 {

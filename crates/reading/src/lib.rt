@@ -6,7 +6,7 @@ ghost use Rattle.std.specs.Prelude.{◌≡◌, true, []};
 ghost use Rattle.written.specs.Limits.{narrow};
 ghost use Rattle.written.specs.Reading.{read_text};
 ghost use Rattle.written.specs.Numbered.{read_as};
-ghost use Rattle.written.specs.Lending.{lent_at, lent_before, lent_after};
+ghost use Rattle.written.specs.Lending.{lent_at};
 ghost use Rattle.written.specs.Tables.{are_full};
 ghost use Rattle.written.specs.Outcomes.{leaves, ten, ten_of, read_leaves, read_into, reading_of};
 ghost use Rattle.reading_end.specs.Bare.{Bare};
@@ -31,9 +31,9 @@ fn read_cleared(
 ) -> Read
     requires { Bare narrow (lent_at names.old values.old starts.old literals.old occurrence_starts.old occurrences.old trues.old breaks.old
         uncovered.old places.old) }
-    ensures { ten result (lent_after names.new values.new starts.new literals.new occurrence_starts.new occurrences.new trues.new breaks.new
+    ensures { ten result (lent_at names.new values.new starts.new literals.new occurrence_starts.new occurrences.new trues.new breaks.new
         uncovered.new places.new)
-        ≡ ten_of (read_leaves narrow (lent_before names.old values.old starts.old literals.old occurrence_starts.old occurrences.old trues.old
+        ≡ ten_of (read_leaves narrow (lent_at names.old values.old starts.old literals.old occurrence_starts.old occurrences.old trues.old
         breaks.old uncovered.old places.old)
         [] (read_as form narrow text.now)) }
 {
@@ -86,9 +86,9 @@ pub fn read_full_as(
 ) -> Read
     requires { are_full narrow (lent_at names.old values.old starts.old literals.old occurrence_starts.old occurrences.old trues.old breaks.old
         uncovered.old places.old) ≡ true }
-    ensures { ten result (lent_after names.new values.new starts.new literals.new occurrence_starts.new occurrences.new trues.new breaks.new
+    ensures { ten result (lent_at names.new values.new starts.new literals.new occurrence_starts.new occurrences.new trues.new breaks.new
         uncovered.new places.new)
-        ≡ ten_of (read_leaves narrow (lent_before names.old values.old starts.old literals.old occurrence_starts.old occurrences.old trues.old
+        ≡ ten_of (read_leaves narrow (lent_at names.old values.old starts.old literals.old occurrence_starts.old occurrences.old trues.old
         breaks.old uncovered.old places.old)
         [] (read_as form narrow text.now)) }
 {
@@ -126,9 +126,9 @@ pub fn read_full(
 ) -> Read
     requires { are_full narrow (lent_at names.old values.old starts.old literals.old occurrence_starts.old occurrences.old trues.old breaks.old
         uncovered.old places.old) ≡ true }
-    ensures { ten result (lent_after names.new values.new starts.new literals.new occurrence_starts.new occurrences.new trues.new breaks.new
+    ensures { ten result (lent_at names.new values.new starts.new literals.new occurrence_starts.new occurrences.new trues.new breaks.new
         uncovered.new places.new)
-        ≡ ten_of (read_leaves narrow (lent_before names.old values.old starts.old literals.old occurrence_starts.old occurrences.old trues.old
+        ≡ ten_of (read_leaves narrow (lent_at names.old values.old starts.old literals.old occurrence_starts.old occurrences.old trues.old
         breaks.old uncovered.old places.old)
         [] (read_text narrow text.now)) }
 {
@@ -164,10 +164,10 @@ pub fn read_as(
     places: &mut [u16],
     marks: &mut [u8],
 ) -> Read
-    ensures { leaves result (lent_after names.new values.new starts.new literals.new occurrence_starts.new occurrences.new trues.new breaks.new
+    ensures { leaves result (lent_at names.new values.new starts.new literals.new occurrence_starts.new occurrences.new trues.new breaks.new
         uncovered.new places.new) marks.new
         ≡ read_into narrow (read_as form narrow text.now)
-        (lent_before names.old values.old starts.old literals.old occurrence_starts.old occurrences.old trues.old breaks.old uncovered.old places.old)
+        (lent_at names.old values.old starts.old literals.old occurrence_starts.old occurrences.old trues.old breaks.old uncovered.old places.old)
         marks.old }
 {
     if !tables::all_full(
@@ -220,10 +220,10 @@ pub fn read(
     places: &mut [u16],
     marks: &mut [u8],
 ) -> Read
-    ensures { leaves result (lent_after names.new values.new starts.new literals.new occurrence_starts.new occurrences.new trues.new breaks.new
+    ensures { leaves result (lent_at names.new values.new starts.new literals.new occurrence_starts.new occurrences.new trues.new breaks.new
         uncovered.new places.new) marks.new
         ≡ reading_of narrow text.now
-        (lent_before names.old values.old starts.old literals.old occurrence_starts.old occurrences.old trues.old breaks.old uncovered.old places.old)
+        (lent_at names.old values.old starts.old literals.old occurrence_starts.old occurrences.old trues.old breaks.old uncovered.old places.old)
         marks.old }
 {
     read_as(

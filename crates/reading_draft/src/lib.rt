@@ -4,7 +4,7 @@
 
 ghost use Rattle.written.specs.Limits.{narrow};
 ghost use Rattle.written.specs.Numbered.{read_by};
-ghost use Rattle.reading_lines.specs.Drafting.{desk_at, desk_before, desk_after};
+ghost use Rattle.reading_lines.specs.Drafting.{desk_at};
 ghost use Rattle.reading_end.specs.Drawn.{CanLay, Laying};
 
 use reading_lines::Ended;
@@ -21,8 +21,8 @@ pub fn draft(
     slots: &mut [u16],
 ) -> Ended
     requires { CanLay narrow text.now (desk_at names.old starts.old literals.old stamps.old slots.old) }
-    ensures { Laying narrow (read_by form narrow text.now) (desk_before names.old starts.old literals.old stamps.old slots.old)
-        (desk_after names.new starts.new literals.new stamps.new slots.new) result }
+    ensures { Laying narrow (read_by form narrow text.now) (desk_at names.old starts.old literals.old stamps.old slots.old)
+        (desk_at names.new starts.new literals.new stamps.new slots.new) result }
 {
     match form {
         Form::Own => reading_lines::draft(text, names, starts, literals, stamps, slots),

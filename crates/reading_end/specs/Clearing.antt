@@ -32,11 +32,8 @@ pub record Others : Type 0 where
 abbrev pub others : List ℕ → List ℕ → List ℕ → List ℕ → List ℕ → Others
 others v os oc tc u = record { values = v; occurrence_starts = os; occurrences = oc; trues = tc; uncovered = u }
 
-abbrev pub others_before : Held → Held → Held → Held → Held → Others
-others_before v os oc tc u = others v os oc tc u
-
-abbrev pub others_after : Held → Held → Held → Held → Held → Others
-others_after v os oc tc u = others v os oc tc u
+abbrev pub others_at : Held → Held → Held → Held → Held → Others
+others_at v os oc tc u = others v os oc tc u
 
 abbrev pub others_in : Tables → Others
 others_in t = others t.values t.occurrence_starts t.occurrences t.trues t.uncovered

@@ -5,10 +5,10 @@
 
 ghost use Rattle.std.specs.Prelude.{◌≡◌, ◌≤◌, length};
 ghost use Rattle.written.specs.Limits.{narrow};
-ghost use Rattle.machine.specs.Moving.{fixed_at, fixed_before, fixed_after, moving_at, moving_before, moving_after};
-ghost use Rattle.reading_lines.specs.Drafting.{desk_before, desk_after};
+ghost use Rattle.machine.specs.Moving.{fixed_at, moving_at};
+ghost use Rattle.reading_lines.specs.Drafting.{desk_at};
 ghost use Rattle.reading_end.specs.Tests.{text_tests};
-ghost use Rattle.reading_end.specs.Clearing.{wiped, others_before, others_after, wiped_others, rest_zeroed};
+ghost use Rattle.reading_end.specs.Clearing.{wiped, others_at, wiped_others, rest_zeroed};
 ghost use Rattle.reading_end.specs.Finishing.{finishing, finished, CanFinish};
 
 use reading_lines::Place;
@@ -37,8 +37,8 @@ pub fn clear_draft(
     stamps: &mut [u16],
     slots: &mut [u16],
 )
-    ensures { desk_after names.new starts.new literals.new stamps.new slots.new
-        ≡ wiped narrow (desk_before names.old starts.old literals.old stamps.old slots.old) }
+    ensures { desk_at names.new starts.new literals.new stamps.new slots.new
+        ≡ wiped narrow (desk_at names.old starts.old literals.old stamps.old slots.old) }
 {
     tables::clear_names(names, 2048);
     tables::clear(starts, 8193);
@@ -55,8 +55,8 @@ pub fn clear_others(
     trues: &mut [u16],
     uncovered: &mut [u16],
 )
-    ensures { others_after values.new occurrence_starts.new occurrences.new trues.new uncovered.new
-        ≡ wiped_others narrow (others_before values.old occurrence_starts.old occurrences.old trues.old uncovered.old) }
+    ensures { others_at values.new occurrence_starts.new occurrences.new trues.new uncovered.new
+        ≡ wiped_others narrow (others_at values.old occurrence_starts.old occurrences.old trues.old uncovered.old) }
 {
     tables::clear_words(values, 64);
     tables::clear(occurrence_starts, 4097);
@@ -94,10 +94,10 @@ pub fn finish(
 ) -> Counts
     requires { CanFinish 65536 narrow p (fixed_at starts.now literals.old occurrence_starts.old occurrences.old)
         (moving_at values.now trues.old breaks.old uncovered.old places.old 0) }
-    ensures { finishing result (fixed_after starts.now literals.new occurrence_starts.new occurrences.new)
-        (moving_after values.now trues.new breaks.new uncovered.new places.new result.uncovered)
-        ≡ finished narrow p (fixed_before starts.now literals.old occurrence_starts.old occurrences.old)
-        (moving_before values.now trues.old breaks.old uncovered.old places.old 0) }
+    ensures { finishing result (fixed_at starts.now literals.new occurrence_starts.new occurrences.new)
+        (moving_at values.now trues.new breaks.new uncovered.new places.new result.uncovered)
+        ≡ finished narrow p (fixed_at starts.now literals.old occurrence_starts.old occurrences.old)
+        (moving_at values.now trues.old breaks.old uncovered.old places.old 0) }
 {
     let terms = p.terms;
     let clauses = p.clauses;

@@ -29,12 +29,6 @@ desk n s l m o = record { names = n; starts = s; literals = l; stamps = m; slots
 abbrev pub desk_at : Held → Held → Held → Held → Held → Desk
 desk_at n s l m o = desk n s l m o
 
-abbrev pub desk_before : Held → Held → Held → Held → Held → Desk
-desk_before n s l m o = desk_at n s l m o
-
-abbrev pub desk_after : Held → Held → Held → Held → Held → Desk
-desk_after n s l m o = desk_at n s l m o
-
 -- past the full sizes, and past the slots that names are looked up by, nothing has changed
 pub record BeyondWith (X : Index) (lim : Limits) (w₀ w : Desk) : Type 0 where
   pub names-beyond : drop lim.terms w.names ≡ drop lim.terms w₀.names

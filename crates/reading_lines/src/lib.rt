@@ -8,7 +8,7 @@ ghost use Rattle.written.specs.Limits.{narrow};
 ghost use Rattle.written.specs.Reasons.{fault_at};
 ghost use Rattle.names.specs.Finding.{homes};
 ghost use Rattle.reading_lines.specs.declared.Next.TheVariants.{Refused};
-ghost use Rattle.reading_lines.specs.Drafting.{desk_at, desk_before, desk_after, Going, TurnsBy, Blank, Drawn};
+ghost use Rattle.reading_lines.specs.Drafting.{desk_at, Going, TurnsBy, Blank, Drawn};
 ghost use Rattle.reading_lines.specs.Turns.{given_back, after_literal, line_end, after_line, after_text};
 
 use reading_literal::Taken;
@@ -132,8 +132,8 @@ fn at_token(
     k: Token,
 ) -> Next
     requires { Going homes narrow (desk_at names.old starts.old literals.old stamps.old slots.old) p × (line_of k < 2 ^ 32) }
-    ensures { TurnsBy homes narrow k (desk_before names.old starts.old literals.old stamps.old slots.old) p
-        (desk_after names.new starts.new literals.new stamps.new slots.new) result }
+    ensures { TurnsBy homes narrow k (desk_at names.old starts.old literals.old stamps.old slots.old) p
+        (desk_at names.new starts.new literals.new stamps.new slots.new) result }
 {
     match k {
         Token::Literal(l) => {
@@ -161,8 +161,8 @@ pub fn draft(
     slots: &mut [u16],
 ) -> Ended
     requires { Blank homes narrow text.now (desk_at names.old starts.old literals.old stamps.old slots.old) }
-    ensures { Drawn homes narrow text.now (desk_before names.old starts.old literals.old stamps.old slots.old)
-        (desk_after names.new starts.new literals.new stamps.new slots.new) result }
+    ensures { Drawn homes narrow text.now (desk_at names.old starts.old literals.old stamps.old slots.old)
+        (desk_at names.new starts.new literals.new stamps.new slots.new) result }
 {
     let mut c = Cursor { at: 0, line: 1 };
     let mut p = Place {

@@ -6,7 +6,7 @@
 ghost use Rattle.std.specs.Prelude.{◌≡◌, ◌<◌, length, get_or, set};
 ghost use Rattle.machine.specs.Moving.{view, CanPart};
 ghost use Rattle.machine.specs.Passes.{rewritten, walk_place, rest_place, CanOpen, CanClose, count_one, CanCount, blank, counted, CanCountAll, CanRecount};
-ghost use Rattle.machine.specs.Tallies.{tallies_at, tallies_before, tallies_after};
+ghost use Rattle.machine.specs.Tallies.{tallies_at};
 
 // The place of clause c for walking.
 fn open_one(
@@ -85,9 +85,9 @@ fn count_one(
     number: usize,
 ) -> usize
     requires { CanCount 65536 (view values.now starts.now literals.now) c (tallies_at trues.old breaks.old list.old places.old number) }
-    ensures { tallies_after trues.new breaks.new list.new places.new result
+    ensures { tallies_at trues.new breaks.new list.new places.new result
         ≡ count_one (view values.now starts.now literals.now) c
-        (tallies_before trues.old breaks.old list.old places.old number) }
+        (tallies_at trues.old breaks.old list.old places.old number) }
 {
     let clause = tables::part(starts, literals, c);
     let k = tables::true_count(values, clause);
@@ -116,9 +116,9 @@ fn count_all(
     places: &mut [u16],
 ) -> usize
     requires { CanCountAll 65536 clauses (view values.now starts.now literals.now) (tallies_at trues.old breaks.old list.old places.old 0) }
-    ensures { tallies_after trues.new breaks.new list.new places.new result
+    ensures { tallies_at trues.new breaks.new list.new places.new result
         ≡ counted clauses (view values.now starts.now literals.now)
-        (tallies_before trues.old breaks.old list.old places.old 0) }
+        (tallies_at trues.old breaks.old list.old places.old 0) }
 {
     let mut number = 0;
     let mut c = 0;
@@ -144,9 +144,9 @@ pub fn count_afresh(
     places: &mut [u16],
 ) -> usize
     requires { CanRecount 65536 clauses terms (view values.now starts.now literals.now) (tallies_at trues.old breaks.old list.old places.old 0) }
-    ensures { tallies_after trues.new breaks.new list.new places.new result
+    ensures { tallies_at trues.new breaks.new list.new places.new result
         ≡ counted clauses (view values.now starts.now literals.now)
-        (blank clauses terms (tallies_before trues.old breaks.old list.old places.old 0)) }
+        (blank clauses terms (tallies_at trues.old breaks.old list.old places.old 0)) }
 {
     tables::clear(breaks, terms);
     tables::clear(list, clauses);

@@ -5,7 +5,7 @@
 
 ghost use Rattle.std.specs.Prelude.{◌≡◌};
 ghost use Rattle.written.specs.Limits.{narrow};
-ghost use Rattle.written.specs.Lending.{lent_at, lent_before, lent_after};
+ghost use Rattle.written.specs.Lending.{lent_at};
 ghost use Rattle.written.specs.Program.{course_as, ran_as, run_refused, run_as, run_of};
 ghost use Rattle.running_text.specs.Running.{answered, ended, CanRun};
 
@@ -31,9 +31,9 @@ fn begin(
 ) -> usize
     requires { CanRun narrow (lent_at names.old values.old starts.old literals.old occurrence_starts.old occurrences.old trues.old breaks.old
         uncovered.old places.old) marks.old out.old }
-    ensures { ended result (lent_after names.new values.new starts.new literals.new occurrence_starts.new occurrences.new trues.new breaks.new
+    ensures { ended result (lent_at names.new values.new starts.new literals.new occurrence_starts.new occurrences.new trues.new breaks.new
         uncovered.new places.new) marks.new out.new
-        ≡ ran_as form narrow (lent_before names.old values.old starts.old literals.old occurrence_starts.old occurrences.old trues.old breaks.old
+        ≡ ran_as form narrow (lent_at names.old values.old starts.old literals.old occurrence_starts.old occurrences.old trues.old breaks.old
         uncovered.old places.old) marks.old
         out.old
         (course_as form narrow input.now) }
@@ -99,10 +99,10 @@ pub fn run_sheet_as(
     marks: &mut [u8],
     out: &mut [u8],
 ) -> RunAnswer
-    ensures { answered result (lent_after names.new values.new starts.new literals.new occurrence_starts.new occurrences.new trues.new breaks.new
+    ensures { answered result (lent_at names.new values.new starts.new literals.new occurrence_starts.new occurrences.new trues.new breaks.new
         uncovered.new places.new) marks.new
         out.new
-        ≡ run_as form narrow input.now (lent_before names.old values.old starts.old literals.old occurrence_starts.old occurrences.old trues.old
+        ≡ run_as form narrow input.now (lent_at names.old values.old starts.old literals.old occurrence_starts.old occurrences.old trues.old
         breaks.old uncovered.old places.old)
         marks.old out.old }
 {
@@ -163,10 +163,10 @@ pub fn run_sheet(
     marks: &mut [u8],
     out: &mut [u8],
 ) -> RunAnswer
-    ensures { answered result (lent_after names.new values.new starts.new literals.new occurrence_starts.new occurrences.new trues.new breaks.new
+    ensures { answered result (lent_at names.new values.new starts.new literals.new occurrence_starts.new occurrences.new trues.new breaks.new
         uncovered.new places.new) marks.new
         out.new
-        ≡ run_of narrow input.now (lent_before names.old values.old starts.old literals.old occurrence_starts.old occurrences.old trues.old
+        ≡ run_of narrow input.now (lent_at names.old values.old starts.old literals.old occurrence_starts.old occurrences.old trues.old
         breaks.old uncovered.old places.old)
         marks.old out.old }
 {

@@ -5,7 +5,7 @@
 
 ghost use Rattle.std.specs.Prelude.{◌≡◌, []};
 ghost use Rattle.written.specs.Limits.{narrow};
-ghost use Rattle.written.specs.Lending.{lent_at, lent_before, lent_after};
+ghost use Rattle.written.specs.Lending.{lent_at};
 ghost use Rattle.written.specs.Agreement.{file_in};
 ghost use Rattle.written.specs.Reading.{read_text};
 ghost use Rattle.written.specs.Numbered.{read_as};
@@ -35,12 +35,12 @@ fn walk_on(
 ) -> usize
     requires { CanWalk narrow order n (lent_at names.now values.old starts.now literals.now occurrence_starts.now occurrences.now trues.old
         breaks.old uncovered.old places.old) marks.now out.old }
-    ensures { ended result (lent_after names.now values.new starts.now literals.now occurrence_starts.now occurrences.now trues.new breaks.new
+    ensures { ended result (lent_at names.now values.new starts.now literals.now occurrence_starts.now occurrences.now trues.new breaks.new
         uncovered.new places.new) marks.now out.new
-        ≡ ran_as form narrow (lent_before names.now values.old starts.now literals.now occurrence_starts.now occurrences.now trues.old breaks.old
+        ≡ ran_as form narrow (lent_at names.now values.old starts.now literals.now occurrence_starts.now occurrences.now trues.old breaks.old
         uncovered.old places.old) marks.now
         out.old
-        (walked (walk_over order [] (file_in n (lent_before names.now values.old starts.now literals.now occurrence_starts.now occurrences.now
+        (walked (walk_over order [] (file_in n (lent_at names.now values.old starts.now literals.now occurrence_starts.now occurrences.now
         trues.old breaks.old uncovered.old places.old)))) }
 {
     let answer = walking::walk_tested(
@@ -81,9 +81,9 @@ pub fn read_on_as(
 ) -> usize
     requires { CanRead narrow order (lent_at names.old values.old starts.old literals.old occurrence_starts.old occurrences.old trues.old breaks.old
         uncovered.old places.old) marks.now out.old }
-    ensures { ended result (lent_after names.new values.new starts.new literals.new occurrence_starts.new occurrences.new trues.new breaks.new
+    ensures { ended result (lent_at names.new values.new starts.new literals.new occurrence_starts.new occurrences.new trues.new breaks.new
         uncovered.new places.new) marks.now out.new
-        ≡ ran_as form narrow (lent_before names.old values.old starts.old literals.old occurrence_starts.old occurrences.old trues.old breaks.old
+        ≡ ran_as form narrow (lent_at names.old values.old starts.old literals.old occurrence_starts.old occurrences.old trues.old breaks.old
         uncovered.old places.old) marks.now
         out.old
         (after_reading order (read_as form narrow text.now)) }
@@ -142,9 +142,9 @@ pub fn read_on(
 ) -> usize
     requires { CanRead narrow order (lent_at names.old values.old starts.old literals.old occurrence_starts.old occurrences.old trues.old breaks.old
         uncovered.old places.old) marks.now out.old }
-    ensures { ended result (lent_after names.new values.new starts.new literals.new occurrence_starts.new occurrences.new trues.new breaks.new
+    ensures { ended result (lent_at names.new values.new starts.new literals.new occurrence_starts.new occurrences.new trues.new breaks.new
         uncovered.new places.new) marks.now out.new
-        ≡ ran narrow (lent_before names.old values.old starts.old literals.old occurrence_starts.old occurrences.old trues.old breaks.old
+        ≡ ran narrow (lent_at names.old values.old starts.old literals.old occurrence_starts.old occurrences.old trues.old breaks.old
         uncovered.old places.old) marks.now
         out.old
         (after_reading order (read_text narrow text.now)) }

@@ -7,7 +7,7 @@ ghost use Rattle.std.specs.Prelude.{◌≡◌};
 ghost use Rattle.written.specs.Lists.{total};
 ghost use Rattle.written.specs.Limits.{narrow};
 ghost use Rattle.written.specs.Tables.{are_full};
-ghost use Rattle.written.specs.Lending.{lent_before};
+ghost use Rattle.written.specs.Lending.{lent_at};
 ghost use Rattle.written.specs.Marks.{full_marked};
 ghost use Rattle.written.specs.Agreement.{part_of};
 ghost use Rattle.machine.specs.Literals.{value_in, term_if, xor_true};
@@ -31,7 +31,7 @@ pub fn are_full(
     uncovered: &[u16],
     places: &[u16],
 ) -> bool
-    ensures { result ≡ are_full narrow (lent_before names.now values.now starts.now literals.now occurrence_starts.now occurrences.now trues.now
+    ensures { result ≡ are_full narrow (lent_at names.now values.now starts.now literals.now occurrence_starts.now occurrences.now trues.now
         breaks.now uncovered.now places.now) }
 {
     if names.len() < 2048 {
@@ -78,7 +78,7 @@ pub fn all_full(
     places: &[u16],
     marks: &[u8],
 ) -> bool
-    ensures { result ≡ full_marked narrow (lent_before names.now values.now starts.now literals.now occurrence_starts.now occurrences.now trues.now
+    ensures { result ≡ full_marked narrow (lent_at names.now values.now starts.now literals.now occurrence_starts.now occurrences.now trues.now
         breaks.now uncovered.now places.now)
         marks.now }
 {

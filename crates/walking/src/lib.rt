@@ -5,11 +5,11 @@
 
 ghost use Rattle.std.specs.Prelude.{◌≡◌, false, cond, ltb, ◌^◌};
 ghost use Rattle.written.specs.Limits.{narrow};
-ghost use Rattle.written.specs.Lending.{lent_at, lent_before, lent_after};
+ghost use Rattle.written.specs.Lending.{lent_at};
 ghost use Rattle.written.specs.Outcomes.{leaves};
 ghost use Rattle.laws.specs.WalkCalls.{Allowed};
-ghost use Rattle.machine.specs.Moving.{fixed_at, fixed_before};
-ghost use Rattle.walking_steps.specs.Stepping.{stand_at, stand_before, stand_after};
+ghost use Rattle.machine.specs.Moving.{fixed_at};
+ghost use Rattle.walking_steps.specs.Stepping.{stand_at};
 ghost use Rattle.walking.specs.Walking.{end, walks_in, CanWalks};
 ghost use Rattle.walking.specs.Made.{walk_made};
 
@@ -54,9 +54,9 @@ fn all_walks(
     requires { CanWalks 65536 (2 ^ 32) n.terms n.clauses order.walks order marks.now
         (fixed_at starts.now literals.now occurrence_starts.now occurrences.now)
         (stand_at values.old trues.old breaks.old list.old places.old from) }
-    ensures { end result.found result.walks (stand_after values.new trues.new breaks.new list.new places.new result.at)
-        ≡ walks_in order marks.now n.terms n.clauses (fixed_before starts.now literals.now occurrence_starts.now occurrences.now) order.walks 0
-        (stand_before values.old trues.old breaks.old list.old places.old from) }
+    ensures { end result.found result.walks (stand_at values.new trues.new breaks.new list.new places.new result.at)
+        ≡ walks_in order marks.now n.terms n.clauses (fixed_at starts.now literals.now occurrence_starts.now occurrences.now) order.walks 0
+        (stand_at values.old trues.old breaks.old list.old places.old from) }
 {
     let mut at = from;
     let mut begun: u32 = 0;
@@ -105,9 +105,9 @@ pub fn walk_tested(
 ) -> Walked
     requires { Allowed narrow order n (lent_at names.now values.old starts.now literals.now occurrence_starts.now occurrences.now trues.old
         breaks.old uncovered.old places.old) marks.now }
-    ensures { leaves result (lent_after names.now values.new starts.now literals.now occurrence_starts.now occurrences.now trues.new breaks.new
+    ensures { leaves result (lent_at names.now values.new starts.now literals.now occurrence_starts.now occurrences.now trues.new breaks.new
         uncovered.new places.new) marks.now
-        ≡ walk_made narrow order n (lent_before names.now values.old starts.now literals.now occurrence_starts.now occurrences.now trues.old
+        ≡ walk_made narrow order n (lent_at names.now values.old starts.now literals.now occurrence_starts.now occurrences.now trues.old
         breaks.old uncovered.old places.old)
         marks.now }
 {

@@ -4,7 +4,7 @@
 
 ghost use Rattle.std.specs.Prelude.{◌≡◌};
 ghost use Rattle.written.specs.Limits.{narrow};
-ghost use Rattle.written.specs.Lending.{lent_before, lent_after};
+ghost use Rattle.written.specs.Lending.{lent_at};
 ghost use Rattle.written.specs.Orders.{in_range};
 ghost use Rattle.written.specs.Outcomes.{leaves, walk_of};
 ghost use Rattle.walking_call.specs.Tests.{tests_of};
@@ -49,7 +49,7 @@ fn verdict(
     places: &[u16],
     marks: &[u8],
 ) -> Tested
-    ensures { result ≡ tests_of narrow order n (lent_before names.now values.now starts.now literals.now occurrence_starts.now occurrences.now
+    ensures { result ≡ tests_of narrow order n (lent_at names.now values.now starts.now literals.now occurrence_starts.now occurrences.now
         trues.now breaks.now uncovered.now places.now)
         marks.now }
 {
@@ -106,9 +106,9 @@ pub fn walk(
     places: &mut [u16],
     marks: &[u8],
 ) -> Walked
-    ensures { leaves result (lent_after names.now values.new starts.now literals.now occurrence_starts.now occurrences.now trues.new breaks.new
+    ensures { leaves result (lent_at names.now values.new starts.now literals.now occurrence_starts.now occurrences.now trues.new breaks.new
         uncovered.new places.new) marks.now
-        ≡ walk_of narrow order n (lent_before names.now values.old starts.now literals.now occurrence_starts.now occurrences.now trues.old breaks.old
+        ≡ walk_of narrow order n (lent_at names.now values.old starts.now literals.now occurrence_starts.now occurrences.now trues.old breaks.old
         uncovered.old places.old)
         marks.now }
 {

@@ -25,12 +25,6 @@ stand ws t y k = record { tables = moving ws t; generator = y; flips = k }
 abbrev pub stand_at : Held → Held → Held → Held → Held → At → Stand
 stand_at ws ts bs us ps a = stand ws (tallies_at ts bs us ps a.number) a.generator.state a.flips
 
-abbrev pub stand_before : Held → Held → Held → Held → Held → At → Stand
-stand_before ws ts bs us ps a = stand_at ws ts bs us ps a
-
-abbrev pub stand_after : Held → Held → Held → Held → Held → At → Stand
-stand_after ws ts bs us ps a = stand_at ws ts bs us ps a
-
 -- how many clauses are uncovered, and which
 abbrev pub uncovered_number : Stand → ℕ
 uncovered_number v = v.tables.tallies.uncovered.number

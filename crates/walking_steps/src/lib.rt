@@ -5,8 +5,8 @@
 #![tactic(auto)]
 
 ghost use Rattle.std.specs.Prelude.{◌≡◌, true, cond, [], ◌+◌, ◌^◌, ◌≤◌, ◌<◌, length, ltb};
-ghost use Rattle.machine.specs.Moving.{fixed, fixed_at, fixed_before};
-ghost use Rattle.walking_steps.specs.Stepping.{stand_at, stand_before, stand_after, step_in, CanStep, held_in, start_in, CanStart, onwards_in, any_pinned, walk_in};
+ghost use Rattle.machine.specs.Moving.{fixed, fixed_at};
+ghost use Rattle.walking_steps.specs.Stepping.{stand_at, step_in, CanStep, held_in, start_in, CanStart, onwards_in, any_pinned, walk_in};
 ghost use Rattle.walking_steps.specs.Following.{CanBegin, CanGo};
 
 use draw::Generator;
@@ -39,9 +39,9 @@ fn step(
     requires { CanStep 65536 pinned order marks.now (fixed_at starts.now literals.now occurrence_starts.now occurrences.now)
         (stand_at values.old trues.old breaks.old list.old places.old at)
         × (at.flips + 1 < 2 ^ 32) }
-    ensures { stand_after values.new trues.new breaks.new list.new places.new result
-        ≡ step_in order marks.now (fixed_before starts.now literals.now occurrence_starts.now occurrences.now)
-        (stand_before values.old trues.old breaks.old list.old places.old at) }
+    ensures { stand_at values.new trues.new breaks.new list.new places.new result
+        ≡ step_in order marks.now (fixed_at starts.now literals.now occurrence_starts.now occurrences.now)
+        (stand_at values.old trues.old breaks.old list.old places.old at) }
 {
     let number = at.number;
     let g = at.generator;
@@ -95,9 +95,9 @@ fn onwards(
 ) -> At
     requires { CanGo 65536 order.flips (2 ^ 32) pinned marks.now (fixed_at starts.now literals.now occurrence_starts.now occurrences.now)
         (stand_at values.old trues.old breaks.old list.old places.old from) }
-    ensures { stand_after values.new trues.new breaks.new list.new places.new result
-        ≡ onwards_in order marks.now (fixed_before starts.now literals.now occurrence_starts.now occurrences.now) order.flips
-        (stand_before values.old trues.old breaks.old list.old places.old from) }
+    ensures { stand_at values.new trues.new breaks.new list.new places.new result
+        ≡ onwards_in order marks.now (fixed_at starts.now literals.now occurrence_starts.now occurrences.now) order.flips
+        (stand_at values.old trues.old breaks.old list.old places.old from) }
 {
     let last = from.flips + order.flips;
     let mut at = from;
@@ -155,9 +155,9 @@ fn start(
 ) -> At
     requires { CanStart 65536 n.terms n.clauses marks.now (fixed starts.now literals.now [] [])
         (stand_at values.old trues.old breaks.old list.old places.old from) }
-    ensures { stand_after values.new trues.new breaks.new list.new places.new result
+    ensures { stand_at values.new trues.new breaks.new list.new places.new result
         ≡ start_in marks.now n.terms n.clauses (fixed starts.now literals.now [] [])
-        (stand_before values.old trues.old breaks.old list.old places.old from) }
+        (stand_at values.old trues.old breaks.old list.old places.old from) }
 {
     let terms = n.terms as usize;
     let g = from.generator;
@@ -224,9 +224,9 @@ pub fn one_walk(
     requires { CanBegin 65536 n.terms n.clauses marks.now (fixed_at starts.now literals.now occurrence_starts.now occurrences.now)
         (stand_at values.old trues.old breaks.old list.old places.old from)
         × (from.flips + order.flips < 2 ^ 32) }
-    ensures { stand_after values.new trues.new breaks.new list.new places.new result
-        ≡ walk_in order marks.now n.terms n.clauses (fixed_before starts.now literals.now occurrence_starts.now occurrences.now)
-        (stand_before values.old trues.old breaks.old list.old places.old from) }
+    ensures { stand_at values.new trues.new breaks.new list.new places.new result
+        ≡ walk_in order marks.now n.terms n.clauses (fixed_at starts.now literals.now occurrence_starts.now occurrences.now)
+        (stand_at values.old trues.old breaks.old list.old places.old from) }
 {
     let at = start(
         n, values, starts, literals, trues, breaks, list, places, marks, from,

@@ -7,12 +7,6 @@ use Rattle.written.specs.Tables.{Tables, lent}
 abbrev pub Held : Type 0
 Held = List ℕ
 
--- the ten tables as they stand, at entry and at exit
+-- the ten tables, of what stands in the ten slices
 abbrev pub lent_at : Held → Held → Held → Held → Held → Held → Held → Held → Held → Held → Tables
 lent_at n v s l os oc tc bc u p = lent n v s l os oc tc bc u p
-
-abbrev pub lent_before : Held → Held → Held → Held → Held → Held → Held → Held → Held → Held → Tables
-lent_before n v s l os oc tc bc u p = lent_at n v s l os oc tc bc u p
-
-abbrev pub lent_after : Held → Held → Held → Held → Held → Held → Held → Held → Held → Held → Tables
-lent_after n v s l os oc tc bc u p = lent_at n v s l os oc tc bc u p
