@@ -6,6 +6,7 @@
 ghost use Rattle.std.specs.Prelude.{◌≤◌, length};
 
 use std::io::{Result, Stdout, Write};
+use written::Form;
 
 // One byte put at a place of the buffer, if there is room; the place after it.
 fn push(buffer: &mut [u8], at: usize, byte: u8) -> usize
@@ -78,7 +79,7 @@ fn sheet(buffer: &mut [u8]) -> usize
 fn show(out: &mut Stdout, title: &[u8], input: &[u8]) -> Result<()> {
     out.write_all(title)?;
     let mut report = [0u8; 20544];
-    let n = running_alone::run_alone(input, &mut report);
+    let n = running_alone::run_alone(Form::Own, input, &mut report);
     out.write_all(&report[..n])
 }
 

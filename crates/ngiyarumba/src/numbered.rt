@@ -32,7 +32,7 @@ pub fn ngi_read_numbered(
         uncovered_list.old places.old)
         marks.old) }
 {
-    let answer = reading::read_as(
+    let answer = reading::read(
         Form::Numbered,
         text,
         names,

@@ -6,6 +6,7 @@ ghost use Rattle.written.specs.Outcomes.{leaves, told, reading_of};
 ghost use Rattle.answers.specs.Answers.{read_answer};
 
 use answers::read::ReadAnswer;
+use written::Form;
 
 // Clause text read into the tables, or refused: reason 1 changes nothing, any other leaves the full sizes 0. No term is marked then.
 pub fn ngi_read(
@@ -32,6 +33,7 @@ pub fn ngi_read(
         marks.old) }
 {
     let answer = reading::read(
+        Form::Own,
         text,
         names,
         values,

@@ -5,7 +5,7 @@ ghost use Rattle.written.specs.Lending.{lent_at};
 ghost use Rattle.written.specs.Program.{run_of};
 ghost use Rattle.running_text.specs.Running.{answered};
 
-use written::RunAnswer;
+use written::{Form, RunAnswer};
 
 // What the program prints for the input stands first in `out`. Result 1 tells so, with its length; 0 that a table or `out` is too short (reason 1).
 pub fn ngi_run(
@@ -33,6 +33,7 @@ pub fn ngi_run(
         marks.old out.old }
 {
     running::run_sheet(
+        Form::Own,
         input,
         names,
         values,

@@ -6,7 +6,7 @@
 ghost use Rattle.std.specs.Prelude.{◌≡◌};
 ghost use Rattle.written.specs.Limits.{narrow};
 ghost use Rattle.written.specs.Lending.{lent_at};
-ghost use Rattle.written.specs.Program.{course_as, ran_as, run_refused, run_as, run_of};
+ghost use Rattle.written.specs.Program.{course_as, ran_as, run_refused, run_as};
 ghost use Rattle.running_text.specs.Running.{answered, ended, CanRun};
 
 use running_input::Outset;
@@ -50,7 +50,7 @@ fn begin(
             let order = s.order;
             let at = s.at as usize;
             tables::clear_bytes(marks, 2048);
-            running_text::read_on_as(
+            running_text::read_on(
                 form,
                 order,
                 &input[at..],
@@ -83,7 +83,7 @@ fn refused() -> RunAnswer
 }
 
 // What the program prints for the input stands first in `out`.
-pub fn run_sheet_as(
+pub fn run_sheet(
     form: Form,
     input: &[u8],
     names: &mut [u64],
@@ -145,45 +145,4 @@ pub fn run_sheet_as(
         reason: 0,
         length: n,
     }
-}
-
-// The same of our own text.
-pub fn run_sheet(
-    input: &[u8],
-    names: &mut [u64],
-    values: &mut [u32],
-    starts: &mut [u16],
-    literals: &mut [u16],
-    occurrence_starts: &mut [u16],
-    occurrences: &mut [u16],
-    trues: &mut [u16],
-    breaks: &mut [u16],
-    uncovered: &mut [u16],
-    places: &mut [u16],
-    marks: &mut [u8],
-    out: &mut [u8],
-) -> RunAnswer
-    ensures { answered result (lent_at names.new values.new starts.new literals.new occurrence_starts.new occurrences.new trues.new breaks.new
-        uncovered.new places.new) marks.new
-        out.new
-        ≡ run_of narrow input.now (lent_at names.old values.old starts.old literals.old occurrence_starts.old occurrences.old trues.old
-        breaks.old uncovered.old places.old)
-        marks.old out.old }
-{
-    run_sheet_as(
-        Form::Own,
-        input,
-        names,
-        values,
-        starts,
-        literals,
-        occurrence_starts,
-        occurrences,
-        trues,
-        breaks,
-        uncovered,
-        places,
-        marks,
-        out,
-    )
 }

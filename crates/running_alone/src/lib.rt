@@ -4,14 +4,14 @@
 
 ghost use Rattle.std.specs.Prelude.{◌≡◌, ◌≤◌, length};
 ghost use Rattle.written.specs.Limits.{narrow};
-ghost use Rattle.written.specs.Program.{printed, printed_as, report_size};
+ghost use Rattle.written.specs.Program.{printed_as, report_size};
 ghost use Rattle.pages.specs.Pages.{page, put};
-ghost use Rattle.running_alone.specs.Seeing.{end_told, CanSee, shown_as, shown_of, Within};
+ghost use Rattle.running_alone.specs.Seeing.{end_told, CanSee, shown_as, Within};
 
 use written::Form;
 
 // What is printed stands first in `out`.
-pub fn run_alone_as(form: Form, input: &[u8], out: &mut [u8]) -> usize
+pub fn run_alone(form: Form, input: &[u8], out: &mut [u8]) -> usize
     requires { report_size narrow ≤ length out.old }
     ensures { (page result out.new ≡ put (printed_as form narrow input.now) (page 0 out.old)) × Within result out.new }
 {
@@ -26,7 +26,7 @@ pub fn run_alone_as(form: Form, input: &[u8], out: &mut [u8]) -> usize
     let mut uncovered = [0u16; 8192];
     let mut places = [0u16; 8192];
     let mut marks = [0u8; 2048];
-    let answer = running::run_sheet_as(
+    let answer = running::run_sheet(
         form,
         input,
         &mut names,
@@ -45,14 +45,6 @@ pub fn run_alone_as(form: Form, input: &[u8], out: &mut [u8]) -> usize
     answer.length
 }
 
-// The same of our own text.
-pub fn run_alone(input: &[u8], out: &mut [u8]) -> usize
-    requires { report_size narrow ≤ length out.old }
-    ensures { (page result out.new ≡ put (printed narrow input.now) (page 0 out.old)) × Within result out.new }
-{
-    run_alone_as(Form::Own, input, out)
-}
-
 // Whether what `read` answered last tells the input's end: more than 0 goes on, and less is a failure.
 fn is_end(last: isize) -> bool
     ensures { result ≡ end_told last }
@@ -62,25 +54,16 @@ fn is_end(last: isize) -> bool
 
 // The same of the bytes that were read into a buffer. It has room for one more than an input may have, so that a longer one is noticed.
 // Nothing is shown of an input that was not read to its end.
-pub fn run_read_as(form: Form, buffer: &[u8], read: usize, last: isize, out: &mut [u8]) -> usize
+pub fn run_read(form: Form, buffer: &[u8], read: usize, last: isize, out: &mut [u8]) -> usize
     requires { CanSee narrow read buffer.now out.old }
     ensures { (page result out.new ≡ put (shown_as form narrow read last buffer.now) (page 0 out.old))
         × Within result out.new }
 {
     if 65536 < read {
-        return run_alone_as(form, &buffer[..read], out);
+        return run_alone(form, &buffer[..read], out);
     }
     if is_end(last) {
-        return run_alone_as(form, &buffer[..read], out);
+        return run_alone(form, &buffer[..read], out);
     }
     0
-}
-
-// The same of our own text.
-pub fn run_read(buffer: &[u8], read: usize, last: isize, out: &mut [u8]) -> usize
-    requires { CanSee narrow read buffer.now out.old }
-    ensures { (page result out.new ≡ put (shown_of narrow read last buffer.now) (page 0 out.old))
-        × Within result out.new }
-{
-    run_read_as(Form::Own, buffer, read, last, out)
 }

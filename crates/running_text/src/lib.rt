@@ -7,10 +7,9 @@ ghost use Rattle.std.specs.Prelude.{◌≡◌, []};
 ghost use Rattle.written.specs.Limits.{narrow};
 ghost use Rattle.written.specs.Lending.{lent_at};
 ghost use Rattle.written.specs.Agreement.{file_in};
-ghost use Rattle.written.specs.Reading.{read_text};
 ghost use Rattle.written.specs.Numbered.{read_as};
 ghost use Rattle.written.specs.Walk.{walk_over};
-ghost use Rattle.written.specs.Program.{walked, after_reading, ran, ran_as};
+ghost use Rattle.written.specs.Program.{walked, after_reading, ran_as};
 ghost use Rattle.running_text.specs.Running.{ended, CanRead, CanWalk};
 
 use written::{Counts, Form, Order, Read};
@@ -62,7 +61,7 @@ fn walk_on(
 }
 
 // The text read, then walked over.
-pub fn read_on_as(
+pub fn read_on(
     form: Form,
     order: Order,
     text: &[u8],
@@ -88,7 +87,7 @@ pub fn read_on_as(
         out.old
         (after_reading order (read_as form narrow text.now)) }
 {
-    match reading::read_full_as(
+    match reading::read_full(
         form,
         text,
         names,
@@ -121,49 +120,4 @@ pub fn read_on_as(
             out,
         ),
     }
-}
-
-// The same of our own text.
-pub fn read_on(
-    order: Order,
-    text: &[u8],
-    names: &mut [u64],
-    values: &mut [u32],
-    starts: &mut [u16],
-    literals: &mut [u16],
-    occurrence_starts: &mut [u16],
-    occurrences: &mut [u16],
-    trues: &mut [u16],
-    breaks: &mut [u16],
-    uncovered: &mut [u16],
-    places: &mut [u16],
-    marks: &[u8],
-    out: &mut [u8],
-) -> usize
-    requires { CanRead narrow order (lent_at names.old values.old starts.old literals.old occurrence_starts.old occurrences.old trues.old breaks.old
-        uncovered.old places.old) marks.now out.old }
-    ensures { ended result (lent_at names.new values.new starts.new literals.new occurrence_starts.new occurrences.new trues.new breaks.new
-        uncovered.new places.new) marks.now out.new
-        ≡ ran narrow (lent_at names.old values.old starts.old literals.old occurrence_starts.old occurrences.old trues.old breaks.old
-        uncovered.old places.old) marks.now
-        out.old
-        (after_reading order (read_text narrow text.now)) }
-{
-    read_on_as(
-        Form::Own,
-        order,
-        text,
-        names,
-        values,
-        starts,
-        literals,
-        occurrence_starts,
-        occurrences,
-        trues,
-        breaks,
-        uncovered,
-        places,
-        marks,
-        out,
-    )
 }

@@ -9,7 +9,6 @@ use Rattle.agreeing.specs.contracts.agrees as agrees
 use Rattle.tables.specs.contracts.all_full as all-full
 use Rattle.marked.specs.contracts.agrees as marked-agrees
 use Rattle.reading.specs.contracts.read as read
-use Rattle.reading.specs.contracts.read_as as read-as
 use Rattle.flipping_lists.specs.contracts.apply as apply
 use Rattle.pins.specs.contracts.pin as pin
 use Rattle.pins.specs.contracts.lift as lift
@@ -19,7 +18,6 @@ use Rattle.digits.specs.contracts.is_number as is_number
 use Rattle.running_sheet.specs.contracts.sheet as sheet
 use Rattle.running_input.specs.contracts.set_out as set_out
 use Rattle.running.specs.contracts.run_sheet as run-sheet
-use Rattle.running.specs.contracts.run_sheet_as as run-sheet-as
 use Rattle.ngiyarumba.specs.contracts.draws.ngi_draw as ngi-draw
 use Rattle.ngiyarumba.specs.contracts.draws.ngi_choice as ngi-choice
 use Rattle.ngiyarumba.specs.contracts.draws.ngi_choice_even as ngi-choice-even
@@ -45,10 +43,7 @@ pub marked-agrees-settled : Public marked-agrees.ended (λ M 𝓤. marked-agrees
 marked-agrees-settled M 𝓤 𝓛 mem run κs a g = record { asks_nothing = refl; one-outcome = λ x y. both 𝓤 (λ p q. same (meet p q) refl) }
 
 pub read-settled : Public read.ended (λ M 𝓤. read.clauses)
-read-settled M 𝓤 𝓛 mem run κs a g = record { asks_nothing = refl; one-outcome = λ x y. both 𝓤 (λ p q. let e = meet p q in same (the_answer e) (ap (λ l. (tt, ten l.tables (l.marks, tt))) e)) }
-
-pub read-as-settled : Public read-as.ended (λ M 𝓤. read-as.clauses)
-read-as-settled M 𝓤 𝓛 mem run κs a g = record { asks_nothing = refl; one-outcome = λ x y. both 𝓤 (λ p q. let e = meet p q in same (the_answer e) (ap (λ l. (tt, (tt, ten l.tables (l.marks, tt)))) e)) }
+read-settled M 𝓤 𝓛 mem run κs a g = record { asks_nothing = refl; one-outcome = λ x y. both 𝓤 (λ p q. let e = meet p q in same (the_answer e) (ap (λ l. (tt, (tt, ten l.tables (l.marks, tt)))) e)) }
 
 pub apply-settled : Public apply.ended (λ M 𝓤. apply.clauses)
 apply-settled M 𝓤 𝓛 mem run κs a g = record { asks_nothing = refl; one-outcome = λ x y. both 𝓤 (λ p q. let e = meet p q in same (the_answer e) (ap (λ l. (tt, (tt, five l.tables (tt, tt)))) e)) }
@@ -75,10 +70,7 @@ pub set-out-settled : Public set_out.ended (λ M 𝓤. set_out.clauses)
 set-out-settled M 𝓤 𝓛 mem run κs a g = record { asks_nothing = refl; one-outcome = λ x y. both 𝓤 (λ p q. same (meet p q) refl) }
 
 pub run-sheet-settled : Public run-sheet.ended (λ M 𝓤. run-sheet.clauses)
-run-sheet-settled M 𝓤 𝓛 mem run κs a g = record { asks_nothing = refl; one-outcome = λ x y. both 𝓤 (λ p q. let e = meet p q in same (ap (λ (r : Ran). r.answer) e) (ap (λ (r : Ran). (tt, ten r.tables (r.marks, (r.buffer, tt)))) e)) }
-
-pub run-sheet-as-settled : Public run-sheet-as.ended (λ M 𝓤. run-sheet-as.clauses)
-run-sheet-as-settled M 𝓤 𝓛 mem run κs a g = record { asks_nothing = refl; one-outcome = λ x y. both 𝓤 (λ p q. let e = meet p q in same (ap (λ (r : Ran). r.answer) e) (ap (λ (r : Ran). (tt, (tt, ten r.tables (r.marks, (r.buffer, tt))))) e)) }
+run-sheet-settled M 𝓤 𝓛 mem run κs a g = record { asks_nothing = refl; one-outcome = λ x y. both 𝓤 (λ p q. let e = meet p q in same (ap (λ (r : Ran). r.answer) e) (ap (λ (r : Ran). (tt, (tt, ten r.tables (r.marks, (r.buffer, tt))))) e)) }
 
 pub ngi_draw-settled : Public ngi-draw.ended (λ M 𝓤. ngi-draw.clauses)
 ngi_draw-settled M 𝓤 𝓛 mem run κs a g = record { asks_nothing = refl; one-outcome = λ x y. both 𝓤 (λ p q. same (meet p q) refl) }

@@ -57,7 +57,6 @@ use Rattle.walking.specs.contracts.walk_tested as walk-tested
 use Rattle.reading_end.specs.contracts.verdict as verdict
 use Rattle.flipping_lists.specs.contracts.flip_agreeing as flip-agreeing
 use Rattle.reading.specs.contracts.read_full as read-full
-use Rattle.reading.specs.contracts.read_full_as as read-full-as
 use Rattle.reading_end.specs.contracts.clear_draft as clear-draft
 use Rattle.reading_end.specs.contracts.clear_others as clear-others
 use Rattle.reading_end.specs.contracts.finish as finish
@@ -78,11 +77,8 @@ use Rattle.running_values.specs.contracts.report as values-report
 use Rattle.running_forms.specs.contracts.refusal as form-refusal
 use Rattle.running_forms.specs.contracts.report as form-report
 use Rattle.running_text.specs.contracts.read_on as read-on
-use Rattle.running_text.specs.contracts.read_on_as as read-on-as
 use Rattle.running_alone.specs.contracts.run_alone as run_alone
-use Rattle.running_alone.specs.contracts.run_alone_as as run_alone-as
 use Rattle.running_alone.specs.contracts.run_read as run-read
-use Rattle.running_alone.specs.contracts.run_read_as as run-read-as
 
 pub true-count-settled : Public true-count.ended (λ M 𝓤. true-count.clauses)
 true-count-settled M 𝓤 𝓛 mem run κs a g = record { asks_nothing = refl; one-outcome = λ x y. both 𝓤 (λ p q. same (meet p q) refl) }
@@ -262,26 +258,13 @@ form-report-settled M 𝓤 𝓛 mem run κs a g = record { one-outcome = λ x y.
 
 pub read-full-settled : Inner read-full.ended (λ M 𝓤. read-full.clauses)
 read-full-settled M 𝓤 𝓛 mem run κs a g =
-    record { one-outcome = λ x y. all_three 𝓤 (λ r p q. let e = meet p q in same (ap (λ (l : Ten Read). l.answer) e) (ap (λ (l : Ten Read). (tt, ten l.tables tt)) e)) }
-
-pub read-full-as-settled : Inner read-full-as.ended (λ M 𝓤. read-full-as.clauses)
-read-full-as-settled M 𝓤 𝓛 mem run κs a g =
     record { one-outcome = λ x y. all_three 𝓤 (λ r p q. let e = meet p q in same (ap (λ (l : Ten Read). l.answer) e) (ap (λ (l : Ten Read). (tt, (tt, ten l.tables tt))) e)) }
 
 pub read-on-settled : Inner read-on.ended (λ M 𝓤. read-on.clauses)
-read-on-settled M 𝓤 𝓛 mem run κs a g = record { one-outcome = λ x y. all_three 𝓤 (λ r p q. let e = meet p q in same (ap (λ (w : Ran). w.answer.length) e) (ap (λ (w : Ran). (tt, (tt, ten w.tables (tt, (w.buffer, tt))))) e)) }
-
-pub read-on-as-settled : Inner read-on-as.ended (λ M 𝓤. read-on-as.clauses)
-read-on-as-settled M 𝓤 𝓛 mem run κs a g = record { one-outcome = λ x y. all_three 𝓤 (λ r p q. let e = meet p q in same (ap (λ (w : Ran). w.answer.length) e) (ap (λ (w : Ran). (tt, (tt, (tt, ten w.tables (tt, (w.buffer, tt)))))) e)) }
+read-on-settled M 𝓤 𝓛 mem run κs a g = record { one-outcome = λ x y. all_three 𝓤 (λ r p q. let e = meet p q in same (ap (λ (w : Ran). w.answer.length) e) (ap (λ (w : Ran). (tt, (tt, (tt, ten w.tables (tt, (w.buffer, tt)))))) e)) }
 
 pub run-alone-settled : Inner run_alone.ended (λ M 𝓤. run_alone.clauses)
-run-alone-settled M 𝓤 𝓛 mem run κs a g = record { one-outcome = λ x y. all_three 𝓤 (λ r p q. let e = meet p.0 q.0 in same (ap (λ s. s.at) e) (ap (λ (s : Page). (tt, (s.buffer, tt))) e)) }
-
-pub run-alone-as-settled : Inner run_alone-as.ended (λ M 𝓤. run_alone-as.clauses)
-run-alone-as-settled M 𝓤 𝓛 mem run κs a g = record { one-outcome = λ x y. all_three 𝓤 (λ r p q. let e = meet p.0 q.0 in same (ap (λ s. s.at) e) (ap (λ (s : Page). (tt, (tt, (s.buffer, tt)))) e)) }
+run-alone-settled M 𝓤 𝓛 mem run κs a g = record { one-outcome = λ x y. all_three 𝓤 (λ r p q. let e = meet p.0 q.0 in same (ap (λ s. s.at) e) (ap (λ (s : Page). (tt, (tt, (s.buffer, tt)))) e)) }
 
 pub run-read-settled : Inner run-read.ended (λ M 𝓤. run-read.clauses)
-run-read-settled M 𝓤 𝓛 mem run κs a g = record { one-outcome = λ x y. all_three 𝓤 (λ r p q. let e = meet p.0 q.0 in same (ap (λ s. s.at) e) (ap (λ (s : Page). (tt, (tt, (tt, (s.buffer, tt))))) e)) }
-
-pub run-read-as-settled : Inner run-read-as.ended (λ M 𝓤. run-read-as.clauses)
-run-read-as-settled M 𝓤 𝓛 mem run κs a g = record { one-outcome = λ x y. all_three 𝓤 (λ r p q. let e = meet p.0 q.0 in same (ap (λ s. s.at) e) (ap (λ (s : Page). (tt, (tt, (tt, (tt, (s.buffer, tt)))))) e)) }
+run-read-settled M 𝓤 𝓛 mem run κs a g = record { one-outcome = λ x y. all_three 𝓤 (λ r p q. let e = meet p.0 q.0 in same (ap (λ s. s.at) e) (ap (λ (s : Page). (tt, (tt, (tt, (tt, (s.buffer, tt)))))) e)) }

@@ -3,5 +3,5 @@ use borrow.Author.Rules.{rules}
 use Rattle.running_alone.proofs.Alone.{report-room}
 use Rattle.cnf.proofs.main.Goals as goal
 
-pub run_read_as-n-requires : goal.run_read_as-n-requires
-run_read_as-n-requires c = record { within = search rules; more = search rules; room = report-room (search rules) }
+pub run_read-n-requires : goal.run_read-n-requires
+run_read-n-requires c = record { within = search rules; more = search rules; room = report-room (search rules) }

@@ -11,14 +11,14 @@ refusal-requires c = long-fits c.args.form narrow _ _ _ _ c.requires _ c.set_out
 pub refusal-requires-in-Refused : goal.refusal-requires-in-Refused
 refusal-requires-in-Refused c = sheet-fits c.args.form narrow _ _ _ _ c.requires _ c.set_out.ensures c.in-Refused.is (omega arith)
 
-pub slice_bounds-read_on_as-count : goal.slice_bounds-read_on_as-count
-slice_bounds-read_on_as-count c = text-within c.args.form narrow _ _ _ _ c.requires _ c.set_out.ensures c.in-Begins.is
+pub slice_bounds-read_on-count : goal.slice_bounds-read_on-count
+slice_bounds-read_on-count c = text-within c.args.form narrow _ _ _ _ c.requires _ c.set_out.ensures c.in-Begins.is
 
-pub slice_bounds-read_on_as-start : goal.slice_bounds-read_on_as-start
-slice_bounds-read_on_as-start c = text-within c.args.form narrow _ _ _ _ c.requires _ c.set_out.ensures c.in-Begins.is
+pub slice_bounds-read_on-start : goal.slice_bounds-read_on-start
+slice_bounds-read_on-start c = text-within c.args.form narrow _ _ _ _ c.requires _ c.set_out.ensures c.in-Begins.is
 
-pub read_on_as-requires : goal.read_on_as-requires
-read_on_as-requires c = sheet-reads c.args.form narrow _ _ _ _ c.requires _ c.set_out.ensures c.in-Begins.is c.clear_bytes-in-Begins.ensures
+pub read_on-requires : goal.read_on-requires
+read_on-requires c = sheet-reads c.args.form narrow _ _ _ _ c.requires _ c.set_out.ensures c.in-Begins.is c.clear_bytes-in-Begins.ensures
 
 pub returns-in-Long : goal.returns-in-Long
 returns-in-Long c =
@@ -31,4 +31,4 @@ returns-in-Refused c = sheet-ends c.args.form narrow _ _ _ _ c.requires _ c.set_
 pub returns-in-Begins : goal.returns-in-Begins
 returns-in-Begins c =
     text-ends c.args.form narrow _ _ _ _ c.requires _ c.set_out.ensures c.in-Begins.is
-    c.clear_bytes-in-Begins.ensures c.read_on_as.ensures
+    c.clear_bytes-in-Begins.ensures c.read_on.ensures

@@ -1,7 +1,28 @@
--- `running_text::read_on` meets its contract: it is the reading and the walks over a text whose form is our own. Assumes nothing.
-use Rattle.written.specs.Reading.{read_text}
+-- `running_text::read_on` meets its contract: a refusal is printed; an accepted text is walked over. Assumes nothing.
+use native.Mathlib.Omega.{arith}
+use Rattle.written.specs.Limits.{narrow}
+use Rattle.written.specs.Numbered.{read_as}
+use Rattle.laws.proofs.Marks.{full-tables}
+use Rattle.laws.proofs.NumberedReadings.{form-sound}
+use Rattle.laws.proofs.Forms.{form-line-most}
+use Rattle.running_text.proofs.Readings.{refused-fits, refused-ends, accepted-walks, accepted-ends}
 use Rattle.running_text.proofs.read_on.Goals as goal
 
-pub returns : goal.returns
-unfolding read_text
-returns c = c.read_on_as.ensures
+pub read_full-requires : goal.read_full-requires
+read_full-requires c = full-tables narrow _ _ c.requires.run.full
+
+pub refusal-requires : goal.refusal-requires
+refusal-requires c =
+    refused-fits c.args.form narrow _ (read_as c.args.form narrow c.args.text.now) _ _ _ c.requires c.read_full.ensures _ c.in-Refused.is (omega arith) (form-line-most c.args.form narrow c.args.text.now)
+
+pub walk_on-requires : goal.walk_on-requires
+walk_on-requires c =
+    accepted-walks c.args.form narrow _ (read_as c.args.form narrow c.args.text.now) _ _ _ c.requires c.read_full.ensures (form-sound narrow (omega arith) c.args.form c.args.text.now) _ c.in-Accepted.is
+
+pub returns-in-Refused : goal.returns-in-Refused
+returns-in-Refused c =
+    refused-ends c.args.form narrow _ (read_as c.args.form narrow c.args.text.now) _ _ _ c.requires c.read_full.ensures _ c.in-Refused.is c.refusal.ensures
+
+pub returns-in-Accepted : goal.returns-in-Accepted
+returns-in-Accepted c =
+    accepted-ends c.args.form narrow _ (read_as c.args.form narrow c.args.text.now) _ _ _ c.requires c.read_full.ensures (form-sound narrow (omega arith) c.args.form c.args.text.now) _ c.in-Accepted.is c.walk_on.ensures

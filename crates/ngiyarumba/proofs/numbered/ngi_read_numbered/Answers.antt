@@ -7,4 +7,4 @@ use Rattle.ngiyarumba.proofs.numbered.ngi_read_numbered.Goals as goal
 
 pub returns : goal.returns
 unfolding numbered_of read_numbered
-returns c = told_as read_answer c.read_answer.ensures c.read_as-answer.ensures
+returns c = told_as read_answer c.read_answer.ensures c.read-answer.ensures
