@@ -6,9 +6,10 @@
 ghost use Rattle.std.specs.Prelude.{◌≡◌, true, ◌&&◌};
 ghost use Rattle.written.specs.Limits.{narrow};
 ghost use Rattle.written.specs.Tables.{are_full};
-ghost use Rattle.written.specs.Lending.{lent_at};
 ghost use Rattle.written.specs.Agreement.{counts_fit, agree};
+ghost use Rattle.tables.specs.Seen.{seen};
 
+use tables::Tables;
 use written::Counts;
 
 // ---- counts
@@ -35,50 +36,43 @@ fn counts_fit(n: Counts) -> bool
 // ---- all points together
 
 // Counts that fit agree with full tables.
-fn points_agree(
-    n: Counts,
-    names: &[u64],
-    values: &[u32],
-    starts: &[u16],
-    literals: &[u16],
-    occurrence_starts: &[u16],
-    occurrences: &[u16],
-    trues: &[u16],
-    breaks: &[u16],
-    uncovered: &[u16],
-    places: &[u16],
-) -> bool
-    requires { (are_full narrow (lent_at names.now values.now starts.now literals.now occurrence_starts.now occurrences.now trues.now breaks.now
-        uncovered.now places.now) ≡ true)
+fn points_agree(n: Counts, tables: Tables) -> bool
+    requires { (are_full narrow (seen tables) ≡ true)
         × (counts_fit narrow n ≡ true) }
-    ensures { result ≡ agree narrow n (lent_at names.now values.now starts.now literals.now occurrence_starts.now occurrences.now trues.now
-        breaks.now uncovered.now places.now) }
+    ensures { result ≡ agree narrow n (seen tables.entry) }
 {
-    if agreeing_file::clauses_hold(n, names, starts, literals, occurrence_starts, occurrences) {
+    if agreeing_file::clauses_hold(
+        n,
+        tables.names,
+        tables.starts,
+        tables.literals,
+        tables.occurrence_starts,
+        tables.occurrences,
+    ) {
         if agreeing_counts::counts_agree(
             n,
-            values,
-            starts,
-            literals,
-            occurrence_starts,
-            occurrences,
-            trues,
-            breaks,
-            uncovered,
-            places,
+            tables.values,
+            tables.starts,
+            tables.literals,
+            tables.occurrence_starts,
+            tables.occurrences,
+            tables.trues,
+            tables.breaks,
+            tables.uncovered,
+            tables.places,
         ) {
             return agreeing_rest::rests_agree(
                 n,
-                names,
-                values,
-                starts,
-                literals,
-                occurrence_starts,
-                occurrences,
-                trues,
-                breaks,
-                uncovered,
-                places,
+                tables.names,
+                tables.values,
+                tables.starts,
+                tables.literals,
+                tables.occurrence_starts,
+                tables.occurrences,
+                tables.trues,
+                tables.breaks,
+                tables.uncovered,
+                tables.places,
             );
         }
     }
@@ -86,50 +80,12 @@ fn points_agree(
 }
 
 // The tables are full and agree.
-pub fn agrees(
-    n: Counts,
-    names: &[u64],
-    values: &[u32],
-    starts: &[u16],
-    literals: &[u16],
-    occurrence_starts: &[u16],
-    occurrences: &[u16],
-    trues: &[u16],
-    breaks: &[u16],
-    uncovered: &[u16],
-    places: &[u16],
-) -> bool
-    ensures { result ≡ (are_full narrow (lent_at names.now values.now starts.now literals.now occurrence_starts.now occurrences.now trues.now
-        breaks.now uncovered.now places.now)
-        && agree narrow n (lent_at names.now values.now starts.now literals.now occurrence_starts.now occurrences.now trues.now breaks.now
-        uncovered.now places.now)) }
+pub fn agrees(n: Counts, tables: Tables) -> bool
+    ensures { result ≡ (are_full narrow (seen tables.entry) && agree narrow n (seen tables.entry)) }
 {
-    if tables::are_full(
-        names,
-        values,
-        starts,
-        literals,
-        occurrence_starts,
-        occurrences,
-        trues,
-        breaks,
-        uncovered,
-        places,
-    ) {
+    if tables.are_full() {
         if counts_fit(n) {
-            return points_agree(
-                n,
-                names,
-                values,
-                starts,
-                literals,
-                occurrence_starts,
-                occurrences,
-                trues,
-                breaks,
-                uncovered,
-                places,
-            );
+            return points_agree(n, tables);
         }
     }
     false

@@ -14,7 +14,9 @@ ghost use Rattle.written.specs.Outcomes.{leaves, ten, ten_of, flips_leave, flips
 ghost use Rattle.machine.specs.Moving.{fixed_at, moving_at};
 ghost use Rattle.machine.specs.Passes.{applied, CanApply};
 ghost use Rattle.flipping_lists.specs.Tests.{tests_of, terms_tested, CanFlipList};
+ghost use Rattle.tables.specs.Seen.{seen};
 
+use tables::Tables;
 use written::{Counts, Flipped, Reason, Refusal, Tested};
 
 // The whole list names known terms.
@@ -69,57 +71,16 @@ fn terms_verdict(list: &[u16], terms: u32, marks: &[u8]) -> Tested
 }
 
 // The tests, in their order: 1, 14, 12, then those of the list's terms.
-fn verdict(
-    list: &[u16],
-    n: Counts,
-    names: &[u64],
-    values: &[u32],
-    starts: &[u16],
-    literals: &[u16],
-    occurrence_starts: &[u16],
-    occurrences: &[u16],
-    trues: &[u16],
-    breaks: &[u16],
-    uncovered: &[u16],
-    places: &[u16],
-    marks: &[u8],
-) -> Tested
-    ensures { result ≡ tests_of narrow list.now n
-        (lent_at names.now values.now starts.now literals.now occurrence_starts.now occurrences.now trues.now breaks.now uncovered.now
-        places.now) marks.now }
+fn verdict(list: &[u16], n: Counts, tables: Tables, marks: &[u8]) -> Tested
+    ensures { result ≡ tests_of narrow list.now n (seen tables.entry) marks.now }
 {
-    if !tables::all_full(
-        names,
-        values,
-        starts,
-        literals,
-        occurrence_starts,
-        occurrences,
-        trues,
-        breaks,
-        uncovered,
-        places,
-        marks,
-    ) {
+    if !tables.all_full(marks) {
         return Tested::Failed(Reason::TableTooShort);
     }
     if list.len() > 65536 {
         return Tested::Failed(Reason::ListTooLong);
     }
-    if !marked::agrees(
-        n,
-        names,
-        values,
-        starts,
-        literals,
-        occurrence_starts,
-        occurrences,
-        trues,
-        breaks,
-        uncovered,
-        places,
-        marks,
-    ) {
+    if !marked::agrees(n, tables, marks) {
         return Tested::Failed(Reason::TablesDisagree);
     }
     terms_verdict(list, n.terms, marks)
@@ -238,9 +199,7 @@ pub fn apply(
         breaks.old uncovered.old places.old)
         marks.now }
 {
-    match verdict(
-        list,
-        n,
+    let tables = Tables {
         names,
         values,
         starts,
@@ -251,8 +210,8 @@ pub fn apply(
         breaks,
         uncovered,
         places,
-        marks,
-    ) {
+    };
+    match verdict(list, n, tables, marks) {
         Tested::Failed(reason) => {
             return Flipped::Refused(Refusal {
                 reason: reason,

@@ -7,10 +7,11 @@ ghost use Rattle.std.specs.Prelude.{◌≡◌, ◌&&◌, ◌≤◌, length, eqb}
 ghost use Rattle.words.specs.Words.{bit_at};
 ghost use Rattle.written.specs.Lists.{all, list_of};
 ghost use Rattle.written.specs.Limits.{narrow};
-ghost use Rattle.written.specs.Lending.{lent_at};
 ghost use Rattle.written.specs.Marks.{full_marked, marks_hold, marks_rest, agree_marked};
 ghost use Rattle.marked.specs.Tests.{as_marked};
+ghost use Rattle.tables.specs.Seen.{seen};
 
+use tables::Tables;
 use written::Counts;
 
 // ---- the marks
@@ -82,44 +83,15 @@ fn marks_agree(n: Counts, values: &[u32], marks: &[u8]) -> bool
 // ---- all together
 
 // The tables are full and agree, the marks with the values.
-pub fn agrees(
-    n: Counts,
-    names: &[u64],
-    values: &[u32],
-    starts: &[u16],
-    literals: &[u16],
-    occurrence_starts: &[u16],
-    occurrences: &[u16],
-    trues: &[u16],
-    breaks: &[u16],
-    uncovered: &[u16],
-    places: &[u16],
-    marks: &[u8],
-) -> bool
-    ensures { result ≡ (full_marked narrow (lent_at names.now values.now starts.now literals.now occurrence_starts.now occurrences.now trues.now
-        breaks.now uncovered.now places.now)
-        marks.now
-        && agree_marked narrow n (lent_at names.now values.now starts.now literals.now occurrence_starts.now occurrences.now trues.now breaks.now
-        uncovered.now places.now)
-        marks.now) }
+pub fn agrees(n: Counts, tables: Tables, marks: &[u8]) -> bool
+    ensures { result ≡ (full_marked narrow (seen tables.entry) marks.now
+        && agree_marked narrow n (seen tables.entry) marks.now) }
 {
     if marks.len() < 2048 {
         return false;
     }
-    if agreeing::agrees(
-        n,
-        names,
-        values,
-        starts,
-        literals,
-        occurrence_starts,
-        occurrences,
-        trues,
-        breaks,
-        uncovered,
-        places,
-    ) {
-        return marks_agree(n, values, marks);
+    if agreeing::agrees(n, tables) {
+        return marks_agree(n, tables.values, marks);
     }
     false
 }

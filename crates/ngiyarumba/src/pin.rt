@@ -6,6 +6,7 @@ ghost use Rattle.written.specs.Outcomes.{leaves, told, pin_of, lift_of};
 ghost use Rattle.answers.specs.Answers.{flip_answer, counts};
 
 use answers::flip::FlipAnswer;
+use tables::Tables;
 use written::Counts;
 
 // The term marked, at 0 for the value 0 and else at 1, and flipped if its value differs; or a refusal that changes nothing.
@@ -96,20 +97,17 @@ pub fn ngi_lift(
         literals: literals,
         uncovered: uncovered,
     };
-    let answer = pins::lift(
-        term as usize,
-        n,
+    let tables = Tables {
         names,
         values,
         starts,
-        literals_table,
+        literals: literals_table,
         occurrence_starts,
         occurrences,
-        true_counts,
-        break_counts,
-        uncovered_list,
+        trues: true_counts,
+        breaks: break_counts,
+        uncovered: uncovered_list,
         places,
-        marks,
-    );
-    answers::flip::flip_answer(answer)
+    };
+    answers::flip::flip_answer(pins::lift(term as usize, n, tables, marks))
 }

@@ -11,58 +11,19 @@ ghost use Rattle.written.specs.Flips.{flipped};
 ghost use Rattle.written.specs.Outcomes.{leaves, ten, ten_of, flips_leave, value_asked, flips_for, pin_of, lift_of};
 ghost use Rattle.flipping_lists.specs.Tests.{CanFlipList};
 ghost use Rattle.pins.specs.Tests.{tests_of};
+ghost use Rattle.tables.specs.Seen.{seen};
 
+use tables::Tables;
 use written::{Counts, Flipped, Reason, Refusal, Tested};
 
 // The tests of a pin and of a lift, in their order: 1, 12, 13.
-fn verdict(
-    term: usize,
-    n: Counts,
-    names: &[u64],
-    values: &[u32],
-    starts: &[u16],
-    literals: &[u16],
-    occurrence_starts: &[u16],
-    occurrences: &[u16],
-    trues: &[u16],
-    breaks: &[u16],
-    uncovered: &[u16],
-    places: &[u16],
-    marks: &[u8],
-) -> Tested
-    ensures { result ≡ tests_of narrow term n (lent_at names.now values.now starts.now literals.now occurrence_starts.now occurrences.now
-        trues.now breaks.now uncovered.now places.now)
-        marks.now }
+fn verdict(term: usize, n: Counts, tables: Tables, marks: &[u8]) -> Tested
+    ensures { result ≡ tests_of narrow term n (seen tables.entry) marks.now }
 {
-    if !tables::all_full(
-        names,
-        values,
-        starts,
-        literals,
-        occurrence_starts,
-        occurrences,
-        trues,
-        breaks,
-        uncovered,
-        places,
-        marks,
-    ) {
+    if !tables.all_full(marks) {
         return Tested::Failed(Reason::TableTooShort);
     }
-    if !marked::agrees(
-        n,
-        names,
-        values,
-        starts,
-        literals,
-        occurrence_starts,
-        occurrences,
-        trues,
-        breaks,
-        uncovered,
-        places,
-        marks,
-    ) {
+    if !marked::agrees(n, tables, marks) {
         return Tested::Failed(Reason::TablesDisagree);
     }
     if term >= n.terms as usize {
@@ -163,9 +124,7 @@ pub fn pin(
         breaks.old uncovered.old places.old)
         marks.old }
 {
-    match verdict(
-        term,
-        n,
+    let tables = Tables {
         names,
         values,
         starts,
@@ -176,8 +135,8 @@ pub fn pin(
         breaks,
         uncovered,
         places,
-        marks,
-    ) {
+    };
+    match verdict(term, n, tables, marks) {
         Tested::Failed(reason) => {
             return Flipped::Refused(Refusal {
                 reason: reason,
@@ -205,42 +164,11 @@ pub fn pin(
 }
 
 // The term's mark cleared, or a refusal that changes nothing.
-pub fn lift(
-    term: usize,
-    n: Counts,
-    names: &[u64],
-    values: &[u32],
-    starts: &[u16],
-    literals: &[u16],
-    occurrence_starts: &[u16],
-    occurrences: &[u16],
-    trues: &[u16],
-    breaks: &[u16],
-    uncovered: &[u16],
-    places: &[u16],
-    marks: &mut [u8],
-) -> Flipped
-    ensures { leaves result (lent_at names.now values.now starts.now literals.now occurrence_starts.now occurrences.now trues.now breaks.now
-        uncovered.now places.now) marks.new
-        ≡ lift_of narrow term n (lent_at names.now values.now starts.now literals.now occurrence_starts.now occurrences.now trues.now breaks.now
-        uncovered.now places.now)
-        marks.old }
+pub fn lift(term: usize, n: Counts, tables: Tables, marks: &mut [u8]) -> Flipped
+    ensures { leaves result (seen tables.entry) marks.new
+        ≡ lift_of narrow term n (seen tables.entry) marks.old }
 {
-    match verdict(
-        term,
-        n,
-        names,
-        values,
-        starts,
-        literals,
-        occurrence_starts,
-        occurrences,
-        trues,
-        breaks,
-        uncovered,
-        places,
-        marks,
-    ) {
+    match verdict(term, n, tables, marks) {
         Tested::Failed(reason) => {
             return Flipped::Refused(Refusal {
                 reason: reason,

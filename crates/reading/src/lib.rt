@@ -11,6 +11,7 @@ ghost use Rattle.written.specs.Outcomes.{leaves, ten, ten_of, read_leaves, read_
 ghost use Rattle.reading_end.specs.Bare.{Bare};
 
 use reading_lines::Ended;
+use tables::Tables;
 use written::{Fault, Form, Read, Reason, Tested};
 
 // A text read into full tables of 0: they are 0 again where it is refused.
@@ -131,7 +132,7 @@ pub fn read(
         (lent_at names.old values.old starts.old literals.old occurrence_starts.old occurrences.old trues.old breaks.old uncovered.old places.old)
         marks.old }
 {
-    if !tables::all_full(
+    let tables = Tables {
         names,
         values,
         starts,
@@ -142,8 +143,8 @@ pub fn read(
         breaks,
         uncovered,
         places,
-        marks,
-    ) {
+    };
+    if !tables.all_full(marks) {
         return Read::Refused(Fault {
             reason: Reason::TableTooShort,
             line: 0,

@@ -10,6 +10,7 @@ ghost use Rattle.written.specs.Program.{course_as, ran_as, run_refused, run_as};
 ghost use Rattle.running_text.specs.Running.{answered, ended, CanRun};
 
 use running_input::Outset;
+use tables::Tables;
 use written::{Form, Reason, RunAnswer};
 
 // A run from its outset: an input that is too long or has a faulty sheet is refused, else its text is read.
@@ -106,7 +107,7 @@ pub fn run_sheet(
         breaks.old uncovered.old places.old)
         marks.old out.old }
 {
-    if !tables::all_full(
+    let tables = Tables {
         names,
         values,
         starts,
@@ -117,8 +118,8 @@ pub fn run_sheet(
         breaks,
         uncovered,
         places,
-        marks,
-    ) {
+    };
+    if !tables.all_full(marks) {
         return refused(); // a table is short
     }
     if out.len() < 20544 {

@@ -3,11 +3,10 @@
 
 #![tactic(auto)]
 
-ghost use Rattle.std.specs.Prelude.{◌≡◌};
+ghost use Rattle.std.specs.Prelude.{◌≡◌, ℕ, ◌^◌, ◌<◌, get_or};
 ghost use Rattle.written.specs.Lists.{total};
 ghost use Rattle.written.specs.Limits.{narrow};
 ghost use Rattle.written.specs.Tables.{are_full};
-ghost use Rattle.written.specs.Lending.{lent_at};
 ghost use Rattle.written.specs.Marks.{full_marked};
 ghost use Rattle.written.specs.Agreement.{part_of};
 ghost use Rattle.machine.specs.Literals.{value_in, term_if, xor_true};
@@ -16,87 +15,50 @@ ghost use Rattle.machine.specs.Passes.{zeroed};
 ghost use Rattle.machine.specs.Tallies.{raised, hit_of, CanRaise};
 ghost use Rattle.machine.specs.Uncovered.{uncovered, enters, CanEnter};
 
-// ---- full sizes
+// ---- the ten together
 
-// None of the ten lent tables is shorter than its full size (reason 1).
-pub fn are_full(
-    names: &[u64],
-    values: &[u32],
-    starts: &[u16],
-    literals: &[u16],
-    occurrence_starts: &[u16],
-    occurrences: &[u16],
-    trues: &[u16],
-    breaks: &[u16],
-    uncovered: &[u16],
-    places: &[u16],
-) -> bool
-    ensures { result ≡ are_full narrow (lent_at names.now values.now starts.now literals.now occurrence_starts.now occurrences.now trues.now
-        breaks.now uncovered.now places.now) }
-{
-    if names.len() < 2048 {
-        return false;
-    }
-    if values.len() < 64 {
-        return false;
-    }
-    if starts.len() < 8193 {
-        return false;
-    }
-    if literals.len() < 16384 {
-        return false;
-    }
-    if occurrence_starts.len() < 4097 {
-        return false;
-    }
-    if occurrences.len() < 16384 {
-        return false;
-    }
-    if trues.len() < 8192 {
-        return false;
-    }
-    if breaks.len() < 2048 {
-        return false;
-    }
-    if uncovered.len() < 8192 {
-        return false;
-    }
-    places.len() >= 8192
+// The ten lent tables, as they are looked at.
+#[derive(Clone, Copy)]
+pub struct Tables<'a> {
+    pub names: &'a [u64],
+    pub values: &'a [u32],
+    pub starts: &'a [u16],
+    pub literals: &'a [u16],
+    pub occurrence_starts: &'a [u16],
+    pub occurrences: &'a [u16],
+    pub trues: &'a [u16],
+    pub breaks: &'a [u16],
+    pub uncovered: &'a [u16],
+    pub places: &'a [u16],
+    // what the type of `values` says
+    pub ghost words_fit: { (k : ℕ) → get_or values.now k 0 < 2 ^ 32 },
 }
 
-// With the marks of terms, which are lent beside the ten.
-pub fn all_full(
-    names: &[u64],
-    values: &[u32],
-    starts: &[u16],
-    literals: &[u16],
-    occurrence_starts: &[u16],
-    occurrences: &[u16],
-    trues: &[u16],
-    breaks: &[u16],
-    uncovered: &[u16],
-    places: &[u16],
-    marks: &[u8],
-) -> bool
-    ensures { result ≡ full_marked narrow (lent_at names.now values.now starts.now literals.now occurrence_starts.now occurrences.now trues.now
-        breaks.now uncovered.now places.now)
-        marks.now }
-{
-    if are_full(
-        names,
-        values,
-        starts,
-        literals,
-        occurrence_starts,
-        occurrences,
-        trues,
-        breaks,
-        uncovered,
-        places,
-    ) {
-        return marks.len() >= 2048;
+impl Tables<'_> {
+    ghost use Rattle.tables.specs.Seen.{seen};
+
+    // None of the ten is shorter than its full size (reason 1).
+    pub fn are_full(self) -> bool
+        ensures { result ≡ are_full narrow (seen self.entry) }
+    {
+        (self.names.len() >= 2048)
+            & (self.values.len() >= 64)
+            & (self.starts.len() >= 8193)
+            & (self.literals.len() >= 16384)
+            & (self.occurrence_starts.len() >= 4097)
+            & (self.occurrences.len() >= 16384)
+            & (self.trues.len() >= 8192)
+            & (self.breaks.len() >= 2048)
+            & (self.uncovered.len() >= 8192)
+            & (self.places.len() >= 8192)
     }
-    false
+
+    // With the marks of terms, which are lent beside the ten.
+    pub fn all_full(self, marks: &[u8]) -> bool
+        ensures { result ≡ full_marked narrow (seen self.entry) marks.now }
+    {
+        self.are_full() & (marks.len() >= 2048)
+    }
 }
 
 // ---- reading a clause

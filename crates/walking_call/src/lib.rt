@@ -8,7 +8,9 @@ ghost use Rattle.written.specs.Lending.{lent_at};
 ghost use Rattle.written.specs.Orders.{in_range};
 ghost use Rattle.written.specs.Outcomes.{leaves, walk_of};
 ghost use Rattle.walking_call.specs.Tests.{tests_of};
+ghost use Rattle.tables.specs.Seen.{seen};
 
+use tables::Tables;
 use written::{Counts, Order, Reason, Refusal, Tested, Walked};
 
 // Every number of the order is in its range.
@@ -34,57 +36,16 @@ fn in_range(order: Order) -> bool
 }
 
 // The tests, in their order: 1, 11, 12.
-fn verdict(
-    order: Order,
-    n: Counts,
-    names: &[u64],
-    values: &[u32],
-    starts: &[u16],
-    literals: &[u16],
-    occurrence_starts: &[u16],
-    occurrences: &[u16],
-    trues: &[u16],
-    breaks: &[u16],
-    uncovered: &[u16],
-    places: &[u16],
-    marks: &[u8],
-) -> Tested
-    ensures { result ≡ tests_of narrow order n (lent_at names.now values.now starts.now literals.now occurrence_starts.now occurrences.now
-        trues.now breaks.now uncovered.now places.now)
-        marks.now }
+fn verdict(order: Order, n: Counts, tables: Tables, marks: &[u8]) -> Tested
+    ensures { result ≡ tests_of narrow order n (seen tables.entry) marks.now }
 {
-    if !tables::all_full(
-        names,
-        values,
-        starts,
-        literals,
-        occurrence_starts,
-        occurrences,
-        trues,
-        breaks,
-        uncovered,
-        places,
-        marks,
-    ) {
+    if !tables.all_full(marks) {
         return Tested::Failed(Reason::TableTooShort);
     }
     if !in_range(order) {
         return Tested::Failed(Reason::OutOfRange);
     }
-    if !marked::agrees(
-        n,
-        names,
-        values,
-        starts,
-        literals,
-        occurrence_starts,
-        occurrences,
-        trues,
-        breaks,
-        uncovered,
-        places,
-        marks,
-    ) {
+    if !marked::agrees(n, tables, marks) {
         return Tested::Failed(Reason::TablesDisagree);
     }
     Tested::Passed
@@ -112,9 +73,7 @@ pub fn walk(
         uncovered.old places.old)
         marks.now }
 {
-    match verdict(
-        order,
-        n,
+    let tables = Tables {
         names,
         values,
         starts,
@@ -125,8 +84,8 @@ pub fn walk(
         breaks,
         uncovered,
         places,
-        marks,
-    ) {
+    };
+    match verdict(order, n, tables, marks) {
         Tested::Failed(reason) => {
             return Walked::Refused(Refusal {
                 reason: reason,

@@ -15,22 +15,22 @@ clauses_hold-requires c =
 pub counts_agree-requires : goal.counts_agree-requires
 counts_agree-requires c =
     let p = c.requires in
-    counts-can narrow _ _ p.0 (λ k. (c.type_inv.values k).fits) p.1 (sym c.clauses_hold.ensures ∙ c.if-clauses_hold.true)
+    counts-can narrow _ _ p.0 c.args.tables.words_fit p.1 (sym c.clauses_hold.ensures ∙ c.if-clauses_hold.true)
 
 pub returns-then-counts_agree : goal.returns-then-counts_agree
 returns-then-counts_agree c =
     let p = c.requires in
     c.rests_agree.ensures
-    ∙ rest_decides narrow _ _ p.0 (λ k. (c.type_inv.values k).fits) p.1 (sym c.clauses_hold.ensures ∙ c.if-clauses_hold.true)
+    ∙ rest_decides narrow _ _ p.0 c.args.tables.words_fit p.1 (sym c.clauses_hold.ensures ∙ c.if-clauses_hold.true)
     (sym c.counts_agree.ensures ∙ c.if-counts_agree.true)
 
 pub returns-else-counts_agree : goal.returns-else-counts_agree
 returns-else-counts_agree c =
     let p = c.requires in
-    not-counted narrow _ _ p.0 (λ k. (c.type_inv.values k).fits) p.1 (sym c.clauses_hold.ensures ∙ c.if-clauses_hold.true)
+    not-counted narrow _ _ p.0 c.args.tables.words_fit p.1 (sym c.clauses_hold.ensures ∙ c.if-clauses_hold.true)
     (sym c.counts_agree.ensures ∙ c.if-counts_agree.false)
 
 pub returns-else-clauses_hold : goal.returns-else-clauses_hold
 returns-else-clauses_hold c =
     let p = c.requires in
-    not-held narrow _ _ p.0 (λ k. (c.type_inv.values k).fits) p.1 (sym c.clauses_hold.ensures ∙ c.if-clauses_hold.false)
+    not-held narrow _ _ p.0 c.args.tables.words_fit p.1 (sym c.clauses_hold.ensures ∙ c.if-clauses_hold.false)
