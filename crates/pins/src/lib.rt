@@ -2,8 +2,7 @@
 
 #![tactic(auto)]
 
-ghost use Rattle.std.specs.Prelude.{◌≡◌, [], ◌∷◌, ◌+◌, ◌<◌, length, set};
-ghost use Rattle.written.specs.declared.Flipped.TheVariants.{Applied};
+ghost use Rattle.std.specs.Prelude.{◌≡◌, [], ◌∷◌, ◌+◌, ◌<◌, length, set, Ok};
 ghost use Rattle.written.specs.Limits.{narrow};
 ghost use Rattle.written.specs.Lending.{lent_at};
 ghost use Rattle.written.specs.Agreement.{state_in};
@@ -12,7 +11,7 @@ ghost use Rattle.written.specs.Outcomes.{leaves, ten, ten_of, flips_leave, value
 ghost use Rattle.flipping_lists.specs.Tests.{CanFlipList};
 ghost use Rattle.pins.specs.Tests.{tests_of};
 
-use written::{Counts, Flipped, Reason, Refusal, Tested};
+use written::{Counts, Reason, Refusal};
 
 // The tests of a pin and of a lift, in their order: 1, 12, 13.
 fn verdict(
@@ -29,7 +28,7 @@ fn verdict(
     uncovered: &[u16],
     places: &[u16],
     marks: &[u8],
-) -> Tested
+) -> Result<(), Reason>
     ensures { result ≡ tests_of narrow term n (lent_at names.now values.now starts.now literals.now occurrence_starts.now occurrences.now
         trues.now breaks.now uncovered.now places.now)
         marks.now }
@@ -47,7 +46,7 @@ fn verdict(
         places,
         marks,
     ) {
-        return Tested::Failed(Reason::TableTooShort);
+        return Err(Reason::TableTooShort);
     }
     if !marked::agrees(
         n,
@@ -63,12 +62,12 @@ fn verdict(
         places,
         marks,
     ) {
-        return Tested::Failed(Reason::TablesDisagree);
+        return Err(Reason::TablesDisagree);
     }
     if term >= n.terms as usize {
-        return Tested::Failed(Reason::UnknownTerm);
+        return Err(Reason::UnknownTerm);
     }
-    Tested::Passed
+    Ok(())
 }
 
 // The value asked for: 0 by 0, and 1 by any other number.
@@ -111,7 +110,7 @@ fn flip_to(
 ) -> Counts
     requires { CanFlipList narrow (term ∷ []) n (lent_at names.now values.old starts.now literals.now occurrence_starts.now occurrences.now trues.old
         breaks.old uncovered.old places.old) }
-    ensures { ten (Applied result) (lent_at names.now values.new starts.now literals.now occurrence_starts.now occurrences.now trues.new
+    ensures { ten (Ok result) (lent_at names.now values.new starts.now literals.now occurrence_starts.now occurrences.now trues.new
         breaks.new uncovered.new places.new)
         ≡ ten_of (flips_leave narrow (lent_at names.now values.old starts.now literals.now occurrence_starts.now occurrences.now trues.old
         breaks.old uncovered.old places.old) []
@@ -156,14 +155,14 @@ pub fn pin(
     uncovered: &mut [u16],
     places: &mut [u16],
     marks: &mut [u8],
-) -> Flipped
+) -> Result<Counts, Refusal>
     ensures { leaves result (lent_at names.now values.new starts.now literals.now occurrence_starts.now occurrences.now trues.new breaks.new
         uncovered.new places.new) marks.new
         ≡ pin_of narrow term value n (lent_at names.now values.old starts.now literals.now occurrence_starts.now occurrences.now trues.old
         breaks.old uncovered.old places.old)
         marks.old }
 {
-    match verdict(
+    verdict(
         term,
         n,
         names,
@@ -177,17 +176,10 @@ pub fn pin(
         uncovered,
         places,
         marks,
-    ) {
-        Tested::Failed(reason) => {
-            return Flipped::Refused(Refusal {
-                reason: reason,
-                counts: n,
-            });
-        }
-        Tested::Passed => {}
-    }
+    )
+    .map_err(|reason| Refusal { reason, counts: n })?;
     mark_term(marks, term, value);
-    Flipped::Applied(flip_to(
+    Ok(flip_to(
         term,
         value,
         n,
@@ -219,14 +211,14 @@ pub fn lift(
     uncovered: &[u16],
     places: &[u16],
     marks: &mut [u8],
-) -> Flipped
+) -> Result<Counts, Refusal>
     ensures { leaves result (lent_at names.now values.now starts.now literals.now occurrence_starts.now occurrences.now trues.now breaks.now
         uncovered.now places.now) marks.new
         ≡ lift_of narrow term n (lent_at names.now values.now starts.now literals.now occurrence_starts.now occurrences.now trues.now breaks.now
         uncovered.now places.now)
         marks.old }
 {
-    match verdict(
+    verdict(
         term,
         n,
         names,
@@ -240,15 +232,8 @@ pub fn lift(
         uncovered,
         places,
         marks,
-    ) {
-        Tested::Failed(reason) => {
-            return Flipped::Refused(Refusal {
-                reason: reason,
-                counts: n,
-            });
-        }
-        Tested::Passed => {}
-    }
+    )
+    .map_err(|reason| Refusal { reason, counts: n })?;
     marks[term] = 0;
-    Flipped::Applied(n)
+    Ok(n)
 }
