@@ -9,7 +9,7 @@ ghost use Rattle.written.specs.Orders.{in_range};
 ghost use Rattle.written.specs.Outcomes.{leaves, walk_of};
 ghost use Rattle.walking_call.specs.Tests.{tests_of};
 
-use written::{Counts, Order, Reason, Refusal, Tested, Walked};
+use written::{Counts, Order, Reason, Refusal, Walked};
 
 // Every number of the order is in its range.
 fn in_range(order: Order) -> bool
@@ -48,7 +48,7 @@ fn verdict(
     uncovered: &[u16],
     places: &[u16],
     marks: &[u8],
-) -> Tested
+) -> Result<(), Reason>
     ensures { result ≡ tests_of narrow order n (lent_at names.now values.now starts.now literals.now occurrence_starts.now occurrences.now
         trues.now breaks.now uncovered.now places.now)
         marks.now }
@@ -66,10 +66,10 @@ fn verdict(
         places,
         marks,
     ) {
-        return Tested::Failed(Reason::TableTooShort);
+        return Err(Reason::TableTooShort);
     }
     if !in_range(order) {
-        return Tested::Failed(Reason::OutOfRange);
+        return Err(Reason::OutOfRange);
     }
     if !marked::agrees(
         n,
@@ -85,9 +85,9 @@ fn verdict(
         places,
         marks,
     ) {
-        return Tested::Failed(Reason::TablesDisagree);
+        return Err(Reason::TablesDisagree);
     }
-    Tested::Passed
+    Ok(())
 }
 
 // The walks of an order, or a refusal that changes nothing.
@@ -105,37 +105,14 @@ pub fn walk(
     uncovered: &mut [u16],
     places: &mut [u16],
     marks: &[u8],
-) -> Walked
+) -> Result<Walked, Refusal>
     ensures { leaves result (lent_at names.now values.new starts.now literals.now occurrence_starts.now occurrences.now trues.new breaks.new
         uncovered.new places.new) marks.now
         ≡ walk_of narrow order n (lent_at names.now values.old starts.now literals.now occurrence_starts.now occurrences.now trues.old breaks.old
         uncovered.old places.old)
         marks.now }
 {
-    match verdict(
-        order,
-        n,
-        names,
-        values,
-        starts,
-        literals,
-        occurrence_starts,
-        occurrences,
-        trues,
-        breaks,
-        uncovered,
-        places,
-        marks,
-    ) {
-        Tested::Failed(reason) => {
-            return Walked::Refused(Refusal {
-                reason: reason,
-                counts: n,
-            });
-        }
-        Tested::Passed => {}
-    }
-    walking::walk_tested(
+    verdict(
         order,
         n,
         names,
@@ -150,4 +127,20 @@ pub fn walk(
         places,
         marks,
     )
+    .map_err(|reason| Refusal { reason, counts: n })?;
+    Ok(walking::walk_tested(
+        order,
+        n,
+        names,
+        values,
+        starts,
+        literals,
+        occurrence_starts,
+        occurrences,
+        trues,
+        breaks,
+        uncovered,
+        places,
+        marks,
+    ))
 }
