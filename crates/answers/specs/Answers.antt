@@ -1,12 +1,12 @@
 -- The answers as they cross the boundary: the values that document 01 gives each case. Assumes nothing.
-use Rattle.std.specs.Prelude.{ℕ}
+use Rattle.std.specs.Prelude.{ℕ, Result}
 use Rattle.draw.specs.declared.Drawn.{Drawn}
+use Rattle.written.specs.declared.Refusal.{Refusal}
+use Rattle.written.specs.declared.Fault.{Fault}
 use Rattle.written.specs.declared.Counts.{Counts}
 use Rattle.written.specs.declared.Order.{Order}
-use Rattle.written.specs.declared.Read.{Read}
 use Rattle.written.specs.declared.Tour.{Tour}
 use Rattle.written.specs.declared.Walked.{Walked}
-use Rattle.written.specs.declared.Flipped.{Flipped}
 use Rattle.written.specs.Outcomes.{read_values, walk_values, flip_values}
 use Rattle.answers.specs.declared.draws.DrawAnswer.{DrawAnswer}
 use Rattle.answers.specs.declared.read.ReadAnswer.{ReadAnswer}
@@ -22,7 +22,7 @@ abbrev pub counts : ℕ → ℕ → ℕ → ℕ → Counts
 counts t c l u = record { terms = t; clauses = c; literals = l; uncovered = u }
 
 -- the answer of a flip list
-unfoldable pub flip_answer : Flipped → FlipAnswer
+unfoldable pub flip_answer : Result Counts Refusal → FlipAnswer
 flip_answer a =
     record {
       result = (flip_values a).result;
@@ -34,7 +34,7 @@ flip_answer a =
     }
 
 -- the answer of a reading
-unfoldable pub read_answer : Read → ReadAnswer
+unfoldable pub read_answer : Result Counts Fault → ReadAnswer
 read_answer a =
     record {
       result = (read_values a).result;
@@ -47,7 +47,7 @@ read_answer a =
     }
 
 -- the answer of a walk
-unfoldable pub walk_answer : Walked → WalkAnswer
+unfoldable pub walk_answer : Result Walked Refusal → WalkAnswer
 walk_answer a =
     record {
       result = (walk_values a).result;

@@ -2,7 +2,7 @@
 ghost use Rattle.std.specs.Prelude.{◌≡◌};
 ghost use Rattle.answers.specs.Answers.{flip_answer};
 
-use written::Flipped;
+use written::{Counts, Refusal};
 
 // Result 1 is applied, 0 refused; reason 0 where there is none.
 #[repr(C)]
@@ -16,11 +16,11 @@ pub struct FlipAnswer {
     pub uncovered: u32,
 }
 
-pub fn flip_answer(answer: Flipped) -> FlipAnswer
+pub fn flip_answer(answer: Result<Counts, Refusal>) -> FlipAnswer
     ensures { result ≡ flip_answer answer }
 {
     match answer {
-        Flipped::Applied(n) => FlipAnswer {
+        Ok(n) => FlipAnswer {
             result: 1,
             reason: 0,
             terms: n.terms,
@@ -28,7 +28,7 @@ pub fn flip_answer(answer: Flipped) -> FlipAnswer
             literals: n.literals,
             uncovered: n.uncovered,
         },
-        Flipped::Refused(e) => {
+        Err(e) => {
             let reason = e.reason;
             FlipAnswer {
                 result: 0,

@@ -2,7 +2,7 @@
 ghost use Rattle.std.specs.Prelude.{◌≡◌};
 ghost use Rattle.answers.specs.Answers.{read_answer};
 
-use written::Read;
+use written::{Counts, Fault};
 
 // Result 1 is accepted, 0 refused; reason 0 where there is none; the line of the fault, 0 where it has none.
 #[repr(C)]
@@ -17,11 +17,11 @@ pub struct ReadAnswer {
     pub uncovered: u32,
 }
 
-pub fn read_answer(answer: Read) -> ReadAnswer
+pub fn read_answer(answer: Result<Counts, Fault>) -> ReadAnswer
     ensures { result ≡ read_answer answer }
 {
     match answer {
-        Read::Accepted(n) => ReadAnswer {
+        Ok(n) => ReadAnswer {
             result: 1,
             reason: 0,
             line: 0,
@@ -30,7 +30,7 @@ pub fn read_answer(answer: Read) -> ReadAnswer
             literals: n.literals,
             uncovered: n.uncovered,
         },
-        Read::Refused(e) => {
+        Err(e) => {
             let reason = e.reason;
             ReadAnswer {
                 result: 0,

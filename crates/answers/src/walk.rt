@@ -2,7 +2,7 @@
 ghost use Rattle.std.specs.Prelude.{◌≡◌};
 ghost use Rattle.answers.specs.Answers.{tour_answer, walk_answer};
 
-use written::{Tour, Walked};
+use written::{Refusal, Tour, Walked};
 
 // Result 1 is found, 2 gave up, 0 refused; reason 0 where there is none.
 #[repr(C)]
@@ -35,13 +35,13 @@ pub fn tour_answer(res: u32, tour: Tour) -> WalkAnswer
     }
 }
 
-pub fn walk_answer(answer: Walked) -> WalkAnswer
+pub fn walk_answer(answer: Result<Walked, Refusal>) -> WalkAnswer
     ensures { result ≡ walk_answer answer }
 {
     match answer {
-        Walked::Found(tour) => tour_answer(1, tour),
-        Walked::GaveUp(tour) => tour_answer(2, tour),
-        Walked::Refused(e) => {
+        Ok(Walked::Found(tour)) => tour_answer(1, tour),
+        Ok(Walked::GaveUp(tour)) => tour_answer(2, tour),
+        Err(e) => {
             let reason = e.reason;
             WalkAnswer {
                 result: 0,

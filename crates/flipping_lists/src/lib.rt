@@ -2,8 +2,7 @@
 
 #![tactic(auto)]
 
-ghost use Rattle.std.specs.Prelude.{◌≡◌, [], ltb};
-ghost use Rattle.written.specs.declared.Flipped.TheVariants.{Applied};
+ghost use Rattle.std.specs.Prelude.{◌≡◌, [], ltb, Ok};
 ghost use Rattle.written.specs.Lists.{all};
 ghost use Rattle.written.specs.Limits.{narrow};
 ghost use Rattle.written.specs.Lending.{lent_at};
@@ -17,7 +16,7 @@ ghost use Rattle.flipping_lists.specs.Tests.{tests_of, terms_tested, CanFlipList
 ghost use Rattle.tables.specs.Seen.{seen};
 
 use tables::Tables;
-use written::{Counts, Flipped, Reason, Refusal, Tested};
+use written::{Counts, Reason, Refusal};
 
 // The whole list names known terms.
 fn known(list: &[u16], terms: u32) -> bool
@@ -58,30 +57,30 @@ fn free(list: &[u16], marks: &[u8]) -> bool
 }
 
 // The tests of the list's terms, in their order: 13, then 20. The whole list is looked at before any flip.
-fn terms_verdict(list: &[u16], terms: u32, marks: &[u8]) -> Tested
+fn terms_verdict(list: &[u16], terms: u32, marks: &[u8]) -> Result<(), Reason>
     ensures { result ≡ terms_tested terms marks.now list.now }
 {
     if !known(list, terms) {
-        return Tested::Failed(Reason::UnknownTerm);
+        return Err(Reason::UnknownTerm);
     }
     if !free(list, marks) {
-        return Tested::Failed(Reason::PinnedTerm);
+        return Err(Reason::PinnedTerm);
     }
-    Tested::Passed
+    Ok(())
 }
 
 // The tests, in their order: 1, 14, 12, then those of the list's terms.
-fn verdict(list: &[u16], n: Counts, tables: Tables, marks: &[u8]) -> Tested
+fn verdict(list: &[u16], n: Counts, tables: Tables, marks: &[u8]) -> Result<(), Reason>
     ensures { result ≡ tests_of narrow list.now n (seen tables.entry) marks.now }
 {
     if !tables.all_full(marks) {
-        return Tested::Failed(Reason::TableTooShort);
+        return Err(Reason::TableTooShort);
     }
     if list.len() > 65536 {
-        return Tested::Failed(Reason::ListTooLong);
+        return Err(Reason::ListTooLong);
     }
     if !marked::agrees(n, tables, marks) {
-        return Tested::Failed(Reason::TablesDisagree);
+        return Err(Reason::TablesDisagree);
     }
     terms_verdict(list, n.terms, marks)
 }
@@ -129,10 +128,8 @@ fn recounted(n: Counts, number: u32) -> Counts
     ensures { result ≡ record { terms = n.terms; clauses = n.clauses; literals = n.literals; uncovered = number } }
 {
     Counts {
-        terms: n.terms,
-        clauses: n.clauses,
-        literals: n.literals,
         uncovered: number,
+        ..n
     }
 }
 
@@ -153,7 +150,7 @@ pub fn flip_agreeing(
 ) -> Counts
     requires { CanFlipList narrow list.now n (lent_at names.now values.old starts.now literals.now occurrence_starts.now occurrences.now trues.old
         breaks.old uncovered.old places.old) }
-    ensures { ten (Applied result) (lent_at names.now values.new starts.now literals.now occurrence_starts.now occurrences.now trues.new
+    ensures { ten (Ok result) (lent_at names.now values.new starts.now literals.now occurrence_starts.now occurrences.now trues.new
         breaks.new uncovered.new places.new)
         ≡ ten_of (flips_leave narrow (lent_at names.now values.old starts.now literals.now occurrence_starts.now occurrences.now trues.old
         breaks.old uncovered.old places.old) []
@@ -192,7 +189,7 @@ pub fn apply(
     uncovered: &mut [u16],
     places: &mut [u16],
     marks: &[u8],
-) -> Flipped
+) -> Result<Counts, Refusal>
     ensures { leaves result (lent_at names.now values.new starts.now literals.now occurrence_starts.now occurrences.now trues.new breaks.new
         uncovered.new places.new) marks.now
         ≡ flips_of narrow list.now n (lent_at names.now values.old starts.now literals.now occurrence_starts.now occurrences.now trues.old
@@ -211,16 +208,8 @@ pub fn apply(
         uncovered,
         places,
     };
-    match verdict(list, n, tables, marks) {
-        Tested::Failed(reason) => {
-            return Flipped::Refused(Refusal {
-                reason: reason,
-                counts: n,
-            });
-        }
-        Tested::Passed => {}
-    }
-    Flipped::Applied(flip_agreeing(
+    verdict(list, n, tables, marks).map_err(|reason| Refusal { reason, counts: n })?;
+    Ok(flip_agreeing(
         list,
         n,
         names,

@@ -8,6 +8,7 @@ use native.Mathlib.Omega.{arith}
 use lib.ListN.{length, get_or}
 use lib.Dec.{eqb, leb}
 use borrow.Author.Tests.{ne_eqb, eqb-false, leb-true}
+use Rattle.std.specs.Prelude.{Result}
 use Rattle.words.specs.Words.{bit_at}
 use Rattle.scan.specs.Text.{bytes}
 use Rattle.written.specs.declared.Form.TheVariants.{Numbered}
@@ -16,7 +17,6 @@ use Rattle.written.specs.declared.Header.{Header}
 use Rattle.written.specs.declared.Headed.TheVariants.{Says}
 use Rattle.written.specs.declared.Numeral.TheVariants.{Number}
 use Rattle.written.specs.declared.Order.{Order}
-use Rattle.written.specs.declared.Ordered.{Ordered}
 use Rattle.written.specs.declared.Sheet.{Sheet}
 use Rattle.written.specs.Lists.{all, has, list_of}
 use Rattle.written.specs.Limits.{Limits}
@@ -203,7 +203,7 @@ module _ (lim : Limits) (small : lim.terms < 10 ^ 8) (input : List ℕ) where
   competing_gave_up e c = up-values e ((numbered-run-walks e).0 c)
 
   -- no course but one that has found prints it
-  plain-refused : (c : Course) → ((a : Ordered) × (c ≡ unbegun a)) ⊎ ((e : Fault) × (c ≡ unread e)) → has 83 (said_as Numbered c) ≡ false
+  plain-refused : (c : Course) → ((a : Result Sheet Fault) × (c ≡ unbegun a)) ⊎ ((e : Fault) × (c ≡ unread e)) → has 83 (said_as Numbered c) ≡ false
   unfolding said_as
   plain-refused c (inl (a, q)) = rw q (refused-plain _ _)
   plain-refused c (inr (e, q)) = rw q (refused-plain _ _)

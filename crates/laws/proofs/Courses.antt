@@ -10,11 +10,10 @@ use lib.ListN.{length, get_or, drop, length-drop, get_or-eq_default}
 use lib.Seq.{append_snoc, get_or-take}
 use lib.Dec.{leb}
 use borrow.Author.Tests.{leb-true}
+use Rattle.std.specs.Prelude.{Result, Err}
 use Rattle.scan.specs.Text.{bytes}
 use Rattle.written.specs.declared.Form.TheVariants.{Own}
 use Rattle.written.specs.declared.Sheet.{Sheet}
-use Rattle.written.specs.declared.Ordered.{Ordered}
-use Rattle.written.specs.declared.Ordered.TheVariants as O
 use Rattle.written.specs.declared.Fault.{Fault}
 use Rattle.written.specs.declared.Reason.{Reason}
 use Rattle.written.specs.declared.Reason.TheVariants.{TableTooShort, TextTooLong}
@@ -45,7 +44,7 @@ module _ (lim : Limits) (input : List ℕ) where
   pub long-course : lim.text < length input → course_of lim input ≡ unread (fault TextTooLong)
   long-course = long_as Own lim input
 
-  pub sheet-course : (e : Fault) → length input ≤ lim.text → sheet_of input ≡ O.Refused e → course_of lim input ≡ unbegun (O.Refused e)
+  pub sheet-course : (e : Fault) → length input ≤ lim.text → sheet_of input ≡ Err e → course_of lim input ≡ unbegun (Err e)
   sheet-course = sheet_as Own lim input
 
   pub text-course : (s : Sheet) (e : Fault) → Begun lim input s → read_text lim (text_after s input) ≡ refused e → course_of lim input ≡ unread e
@@ -58,7 +57,7 @@ module _ (lim : Limits) (input : List ℕ) where
 
   -- what holds of each course that can be gone
   pub by-course : (P : Course → Type 0) → (lim.text < length input → P (unread (fault TextTooLong)))
-      → ((e : Fault) → length input ≤ lim.text → sheet_of input ≡ O.Refused e → P (unbegun (O.Refused e)))
+      → ((e : Fault) → length input ≤ lim.text → sheet_of input ≡ Err e → P (unbegun (Err e)))
       → ((s : Sheet) (e : Fault) → Begun lim input s → read_text lim (text_after s input) ≡ refused e → P (unread e))
       → ((s : Sheet) (f : File) → Begun lim input s → read_text lim (text_after s input) ≡ accepted f → P (walked (walk_over s.order [] f)))
       → P (course_of lim input)
@@ -72,7 +71,7 @@ fault-reason input _ _ (wrong_form k few h) = refl
 fault-reason input _ _ (out_of_range k few h l) = refl
 fault-reason input _ _ (not_the_choice h l) = refl
 
-pub sheet-reasons : (input : List ℕ) (e : Fault) → sheet_of input ≡ O.Refused e → of_sheet e.reason ≡ true
+pub sheet-reasons : (input : List ℕ) (e : Fault) → sheet_of input ≡ Err e → of_sheet e.reason ≡ true
 sheet-reasons input e q = let n = subst (Says input) q (sheet-says input) in fault-reason input n.line e.reason n.faulty
 
 -- a text is not too long, since no part of the input is longer than the whole
@@ -133,13 +132,13 @@ module _ (c : Course) where
   unfolding said_as report
   up_begins e q f = rw (q, f) refl
 
-  refused-begins : ((a : Ordered) × (c ≡ unbegun a)) ⊎ ((e : Fault) × (c ≡ unread e)) → Begins "result=refused\n" (said c)
+  refused-begins : ((a : Result Sheet Fault) × (c ≡ unbegun a)) ⊎ ((e : Fault) × (c ≡ unread e)) → Begins "result=refused\n" (said c)
   unfolding said_as refused_by
   refused-begins (inl (a, q)) = rw q refl
   refused-begins (inr (e, q)) = rw q refl
 
 pub by_result : {A : Type 0} (c : Course) → ((e : Outcome) → c ≡ walked e → e.found ≡ true → A) → ((e : Outcome) → c ≡ walked e → e.found ≡ false → A)
-    → (((a : Ordered) × (c ≡ unbegun a)) ⊎ ((e : Fault) × (c ≡ unread e)) → A) → A
+    → (((a : Result Sheet Fault) × (c ≡ unbegun a)) ⊎ ((e : Fault) × (c ≡ unread e)) → A) → A
 by_result (unbegun a) f g r = r (inl (a, refl))
 by_result (unread e) f g r = r (inr (e, refl))
 by_result (walked e) f g r = by_cases e.found (f e refl) (g e refl)
@@ -242,7 +241,7 @@ module _ (lim : Limits) (input : List ℕ) where
   was-long e (bad-sheet _ h q) two = absurd (false≢true (sym (ap of_sheet two) ∙ sheet-reasons input e q))
   was-long e (bad-text s _ b q) two = absurd (false≢true (sym (ap of_text two) ∙ text-reasons lim input s e b q))
 
-  was-sheet : (e : Fault) → Refuses lim input e → of_sheet e.reason ≡ true → (length input ≤ lim.text) × (sheet_of input ≡ O.Refused e)
+  was-sheet : (e : Fault) → Refuses lim input e → of_sheet e.reason ≡ true → (length input ≤ lim.text) × (sheet_of input ≡ Err e)
   was-sheet _ (too_long l) own = absurd (false≢true own)
   was-sheet e (bad-sheet _ h q) own = (h, q)
   was-sheet e (bad-text s _ b q) own = absurd (false≢true (sym (text-not-sheet e.reason (text-reasons lim input s e b q)) ∙ own))

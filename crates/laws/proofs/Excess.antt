@@ -9,10 +9,11 @@ use lib.ListN.{length, get_or, set, take, drop, length-take}
 use lib.Seq.{length-take-le, take-take, get_or-take}
 use lib.Dec.{eqb, ltb}
 use borrow.Author.Tests.{not-false, lt-ltb, ltb-true, le-leb, leb-true}
+use Rattle.std.specs.Prelude.{Result}
 use Rattle.words.specs.Words.{bit_of, bit_at, word_count}
+use Rattle.written.specs.declared.Refusal.{Refusal}
 use Rattle.written.specs.declared.Counts.{Counts}
 use Rattle.written.specs.declared.Order.{Order}
-use Rattle.written.specs.declared.Flipped.{Flipped}
 use Rattle.written.specs.Lists.{all, list_of}
 use Rattle.written.specs.Limits.{Limits}
 use Rattle.written.specs.Clauses.{State, as_read}
@@ -280,7 +281,7 @@ module _ (lim : Limits) (t u : Tables) (ms ns : List ℕ) (same : SameInFull lim
           (record { answer = refl; tables = held lim t u same _ (flipped-valid lim ts (state_in n t) (agree-valid lim n t ten long) names); marks = marks })
 
   -- a pin and a lift: what is left where the term is known is the same
-  tested-same : (k : ℕ) (n : Counts) {l r : Leaves Flipped} → (full_marked lim t ms ≡ true → agree_marked lim n t ms ≡ true → k < n.terms → SameCall lim l r)
+  tested-same : (k : ℕ) (n : Counts) {l r : Leaves (Result Counts Refusal)} → (full_marked lim t ms ≡ true → agree_marked lim n t ms ≡ true → k < n.terms → SameCall lim l r)
       → SameCall lim (term_tested lim k n t ms l) (term_tested lim k n u ns r)
   unfolding term_tested
   tested-same k n same_left =

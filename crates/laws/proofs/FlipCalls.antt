@@ -10,12 +10,11 @@ use lib.ListN.{length, get_or, take, drop, length-drop}
 use lib.Seq.{ext_get_or, get_or-drop, get_or-take}
 use lib.Dec.{ltb}
 use borrow.Author.Tests.{le-ltb, lt-ltb, ltb-true, eq-eqb}
+use Rattle.std.specs.Prelude.{Result, Ok, Err}
 use Rattle.written.specs.declared.Counts.{Counts}
 use Rattle.written.specs.declared.Reason.{Reason}
 use Rattle.written.specs.declared.Reason.TheVariants.{TableTooShort}
 use Rattle.written.specs.declared.Refusal.{Refusal}
-use Rattle.written.specs.declared.Flipped.{Flipped}
-use Rattle.written.specs.declared.Flipped.TheVariants as F
 use Rattle.written.specs.Lists.{all, total, list_of, has, times}
 use Rattle.written.specs.Limits.{Limits}
 use Rattle.written.specs.Reasons.{number_of}
@@ -123,17 +122,17 @@ module _ (lim : Limits) (a b : State) (t : Tables) (va : Valid lim a) (vb : Vali
 
 -- ---- what a call answers
 
-abbrev is_applied : Flipped → Bool
-is_applied (F.Applied m) = true
-is_applied (F.Refused e) = false
+abbrev is_applied : Result Counts Refusal → Bool
+is_applied (Ok m) = true
+is_applied (Err e) = false
 
-abbrev counts_in : Flipped → Counts
-counts_in (F.Applied m) = m
-counts_in (F.Refused e) = e.counts
+abbrev counts_in : Result Counts Refusal → Counts
+counts_in (Ok m) = m
+counts_in (Err e) = e.counts
 
-abbrev refusal_in : Flipped → Refusal
-refusal_in (F.Applied m) = record { reason = TableTooShort; counts = m }
-refusal_in (F.Refused e) = e
+abbrev refusal_in : Result Counts Refusal → Refusal
+refusal_in (Ok m) = record { reason = TableTooShort; counts = m }
+refusal_in (Err e) = e
 
 module _ (lim : Limits) (ts : List ℕ) (n : Counts) (t : Tables) (ms : List ℕ) where
   -- all tests are passed, or one fails
@@ -155,21 +154,21 @@ module _ (lim : Limits) (ts : List ℕ) (n : Counts) (t : Tables) (ms : List ℕ
   failed _ (unknown a b d e) = rw (a, le-ltb lim.list (length ts) b, d, e) refl
   failed _ (pinned a b d e g) = rw (a, le-ltb lim.list (length ts) b, d, e, g) refl
 
-  refused-answer : (r : Reason) → Fails lim ts n t ms r → (flips_of lim ts n t ms).answer ≡ F.Refused (record { reason = r; counts = n })
-  refused-answer r f = ap (λ (l : Leaves Flipped). l.answer) (failed r f)
+  refused-answer : (r : Reason) → Fails lim ts n t ms r → (flips_of lim ts n t ms).answer ≡ Err (record { reason = r; counts = n })
+  refused-answer r f = ap (λ (l : Leaves (Result Counts Refusal)). l.answer) (failed r f)
 
   pub passed : Acceptable lim ts n t ms → flips_of lim ts n t ms ≡ flips_leave lim t ms (flipped ts (state_in n t))
   unfolding flips_of
   passed h = rw (h.full, le-ltb lim.list (length ts) h.short, h.agrees, h.known, h.free) refl
 
   module _ (h : Acceptable lim ts n t ms) where
-    pub applied : (flips_of lim ts n t ms).answer ≡ F.Applied (counts_of (flipped ts (state_in n t)))
+    pub applied : (flips_of lim ts n t ms).answer ≡ Ok (counts_of (flipped ts (state_in n t)))
     unfolding flips_leave
-    applied = ap (λ (l : Leaves Flipped). l.answer) (passed h)
+    applied = ap (λ (l : Leaves (Result Counts Refusal)). l.answer) (passed h)
 
     pub left : (flips_of lim ts n t ms).tables ≡ holding lim (flipped ts (state_in n t)) t
     unfolding flips_leave
-    left = ap (λ (l : Leaves Flipped). l.tables) (passed h)
+    left = ap (λ (l : Leaves (Result Counts Refusal)). l.tables) (passed h)
 
     pub tables-full : are_full lim t ≡ true
     tables-full = full-tables lim t ms h.full
@@ -206,39 +205,39 @@ module _ (lim : Limits) (ts : List ℕ) (n : Counts) (t : Tables) (ms : List ℕ
   -- no mark is moved, whatever is answered
   pub flips-marks : (flips_of lim ts n t ms).marks ≡ ms
   unfolding flips_leave
-  flips-marks = tests (λ h. ap (λ (l : Leaves Flipped). l.marks) (passed h)) (λ r f. ap (λ (l : Leaves Flipped). l.marks) (failed r f))
+  flips-marks = tests (λ h. ap (λ (l : Leaves (Result Counts Refusal)). l.marks) (passed h)) (λ r f. ap (λ (l : Leaves (Result Counts Refusal)). l.marks) (failed r f))
 
   -- accepted exactly if all that is asked of a call holds
-  pub accepted-exactly : ((m : Counts) × ((flips_of lim ts n t ms).answer ≡ F.Applied m)) ↔ Acceptable lim ts n t ms
+  pub accepted-exactly : ((m : Counts) × ((flips_of lim ts n t ms).answer ≡ Ok m)) ↔ Acceptable lim ts n t ms
   accepted-exactly = (λ a. was-acceptable a.0 a.1, λ h. (counts_of (flipped ts (state_in n t)), applied h))
     where
-      was-acceptable : (m : Counts) → (flips_of lim ts n t ms).answer ≡ F.Applied m → Acceptable lim ts n t ms
+      was-acceptable : (m : Counts) → (flips_of lim ts n t ms).answer ≡ Ok m → Acceptable lim ts n t ms
       was-acceptable m e = tests (λ h. h) (λ r f. absurd (false≢true (ap is_applied (sym (refused-answer r f) ∙ e))))
 
   -- a refused list leaves all as it was
-  pub flips-refused : (e : Refusal) → (flips_of lim ts n t ms).answer ≡ F.Refused e → Refused lim ts n t ms e (flips_of lim ts n t ms).tables
+  pub flips-refused : (e : Refusal) → (flips_of lim ts n t ms).answer ≡ Err e → Refused lim ts n t ms e (flips_of lim ts n t ms).tables
   flips-refused e q =
       tests (λ h. absurd (true≢false (ap is_applied (sym (applied h) ∙ q))))
       (λ r f.
       let same = ap refusal_in (sym (refused-answer r f) ∙ q) in
       record {
         fails = subst (λ (x : Refusal). Fails lim ts n t ms x.reason) same f;
-        left = ap (λ (l : Leaves Flipped). l.tables) (failed r f);
+        left = ap (λ (l : Leaves (Result Counts Refusal)). l.tables) (failed r f);
         counts = ap (λ (x : Refusal). x.counts) (sym same);
-        values = ap (λ (m : Counts). flip_values (F.Refused (record { reason = e.reason; counts = m }))) (ap (λ (x : Refusal). x.counts) (sym same));
+        values = ap (λ (m : Counts). flip_values (Err (record { reason = e.reason; counts = m }))) (ap (λ (x : Refusal). x.counts) (sym same));
       })
 
   -- every list is applied or refused
-  pub flips-either : ((m : Counts) × ((flips_of lim ts n t ms).answer ≡ F.Applied m)) ⊎ ((e : Refusal) × ((flips_of lim ts n t ms).answer ≡ F.Refused e))
+  pub flips-either : ((m : Counts) × ((flips_of lim ts n t ms).answer ≡ Ok m)) ⊎ ((e : Refusal) × ((flips_of lim ts n t ms).answer ≡ Err e))
   flips-either = tests (λ h. inl (counts_of (flipped ts (state_in n t)), applied h)) (λ r f. inr (record { reason = r; counts = n }, refused-answer r f))
 
   -- which reason is given
 
   failed-reason : (r : Reason) → Fails lim ts n t ms r → reason_given lim ts n t ms ≡ number_of r
-  failed-reason r f = ap (λ (a : Flipped). (flip_values a).reason) (refused-answer r f)
+  failed-reason r f = ap (λ (a : Result Counts Refusal). (flip_values a).reason) (refused-answer r f)
 
   passed-reason : Acceptable lim ts n t ms → reason_given lim ts n t ms ≡ 0
-  passed-reason h = ap (λ (a : Flipped). (flip_values a).reason) (applied h)
+  passed-reason h = ap (λ (a : Result Counts Refusal). (flip_values a).reason) (applied h)
 
   by-reason : {A : Type 0} → (reason_given lim ts n t ms ≡ 0 → Acceptable lim ts n t ms → A) → (reason_given lim ts n t ms ≡ 1 → full_marked lim t ms ≡ false → A)
       → (reason_given lim ts n t ms ≡ 14 → full_marked lim t ms ≡ true → lim.list < length ts → A)
@@ -318,7 +317,7 @@ acceptable-leaves lim ts n t ms h =
           let k = reordered lim ts us n t ms same h in
           let o = demanded.any_order us same in
           let w = after-valid lim us n t ms k in (
-            applied lim us n t ms k ∙ ap F.Applied (sym (same-counts lim after (flipped us (state_in n t)) t valid w o)),
+            applied lim us n t ms k ∙ ap Ok (sym (same-counts lim after (flipped us (state_in n t)) t valid w o)),
             subst₂ (λ a b. SameButList (length after.uncovered) a b) (sym out) (sym (left lim us n t ms k))
                 (same_tables lim after (flipped us (state_in n t)) t valid w o),
           );
@@ -340,14 +339,14 @@ acceptable-leaves lim ts n t ms h =
     demanded = demand_three lim ts (state_in n t) (before-valid lim ts n t ms h) (names-known lim ts n t ms h)
 
 -- demand 3
-pub flips-accepted : (lim : Limits) (ts : List ℕ) (n m : Counts) (t : Tables) (ms : List ℕ) → (flips_of lim ts n t ms).answer ≡ F.Applied m → Accepted lim ts n m t ms
+pub flips-accepted : (lim : Limits) (ts : List ℕ) (n m : Counts) (t : Tables) (ms : List ℕ) → (flips_of lim ts n t ms).answer ≡ Ok m → Accepted lim ts n m t ms
 flips-accepted lim ts n m t ms e =
     let h = (accepted-exactly lim ts n t ms).0 (m, e) in
     subst (λ (k : Counts). Accepted lim ts n k t ms) (ap counts_in (sym (applied lim ts n t ms h) ∙ e)) (acceptable-leaves lim ts n t ms h)
 
 -- so where all that is asked of a call holds
 pub acceptable-flips : (lim : Limits) (ts : List ℕ) (n : Counts) (t : Tables) (ms : List ℕ) → Acceptable lim ts n t ms
-    → (m : Counts) × ((flips_of lim ts n t ms).answer ≡ F.Applied m) × Accepted lim ts n m t ms
+    → (m : Counts) × ((flips_of lim ts n t ms).answer ≡ Ok m) × Accepted lim ts n m t ms
 acceptable-flips lim ts n t ms h = (counts_of (flipped ts (state_in n t)), applied lim ts n t ms h, acceptable-leaves lim ts n t ms h)
 
 -- "Take one [..] clause file, any starting values and any list of up to 65,536 flips of known terms", which document 02 makes "known and free terms", the

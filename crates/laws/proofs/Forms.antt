@@ -7,11 +7,10 @@ use mathlib.Core.List.{List, []}
 use native.Mathlib.Omega.{arith}
 use lib.ListN.{length}
 use borrow.Author.Tests.{lt-ltb, le-ltb}
+use Rattle.std.specs.Prelude.{Result, Ok, Err}
 use Rattle.written.specs.declared.Form.{Form}
 use Rattle.written.specs.declared.Form.TheVariants.{Own, Numbered}
 use Rattle.written.specs.declared.Sheet.{Sheet}
-use Rattle.written.specs.declared.Ordered.{Ordered}
-use Rattle.written.specs.declared.Ordered.TheVariants as O
 use Rattle.written.specs.declared.Fault.{Fault}
 use Rattle.written.specs.declared.Reason.TheVariants.{TextTooLong}
 use Rattle.written.specs.Limits.{Limits}
@@ -54,7 +53,7 @@ module _ (form : Form) (lim : Limits) (input : List ℕ) where
   unfolding course_as
   long_as l = rw (lt-ltb lim.text (length input) l) refl
 
-  pub sheet_as : (e : Fault) → length input ≤ lim.text → sheet_of input ≡ O.Refused e → course_as form lim input ≡ unbegun (O.Refused e)
+  pub sheet_as : (e : Fault) → length input ≤ lim.text → sheet_of input ≡ Err e → course_as form lim input ≡ unbegun (Err e)
   unfolding course_as after_sheet_as
   sheet_as e h q = rw (le-ltb lim.text (length input) h, q) refl
 
@@ -73,16 +72,16 @@ module _ (form : Form) (lim : Limits) (input : List ℕ) where
 
   -- what holds of each course that can be gone
   module _ (P : Course → Type 0) (long : lim.text < length input → P (unread (fault TextTooLong)))
-      (sheet : (e : Fault) → length input ≤ lim.text → sheet_of input ≡ O.Refused e → P (unbegun (O.Refused e)))
+      (sheet : (e : Fault) → length input ≤ lim.text → sheet_of input ≡ Err e → P (unbegun (Err e)))
       (text : (s : Sheet) (e : Fault) → Begun lim input s → read_as form lim (text_after s input) ≡ refused e → P (unread e))
       (walk : (s : Sheet) (f : File) → Begun lim input s → read_as form lim (text_after s input) ≡ accepted f → P (walked (walk_over s.order [] f))) where
     by-reading : (s : Sheet) (r : Reading) → Begun lim input s → read_as form lim (text_after s input) ≡ r → P (course_as form lim input)
     by-reading s (accepted f) b q = rw (walk_as s f b q) (walk s f b q)
     by-reading s (refused e) b q = rw (text_as s e b q) (text s e b q)
 
-    by-sheet : (o : Ordered) → length input ≤ lim.text → sheet_of input ≡ o → P (course_as form lim input)
-    by-sheet (O.Accepted s) h q = by-reading s _ (record { short = h; sheet = q }) refl
-    by-sheet (O.Refused e) h q = rw (sheet_as e h q) (sheet e h q)
+    by-sheet : (o : Result Sheet Fault) → length input ≤ lim.text → sheet_of input ≡ o → P (course_as form lim input)
+    by-sheet (Ok s) h q = by-reading s _ (record { short = h; sheet = q }) refl
+    by-sheet (Err e) h q = rw (sheet_as e h q) (sheet e h q)
 
     pub by_form : P (course_as form lim input)
     by_form = by-lt lim.text (length input) (λ l. rw (long_as l) (long l)) (λ h. by-sheet _ h refl)

@@ -8,9 +8,9 @@ use mathlib.Core.List.{List, [], ◌++◌}
 use native.Mathlib.Omega.{arith}
 use lib.ListN.{length, length-append}
 use lib.Dec.{ltb}
+use Rattle.std.specs.Prelude.{Result, Ok}
+use Rattle.written.specs.declared.Refusal.{Refusal}
 use Rattle.written.specs.declared.Counts.{Counts}
-use Rattle.written.specs.declared.Flipped.{Flipped}
-use Rattle.written.specs.declared.Flipped.TheVariants as F
 use Rattle.written.specs.Lists.{all}
 use Rattle.written.specs.Limits.{Limits}
 use Rattle.written.specs.Clauses.{State}
@@ -50,7 +50,7 @@ module _ (lim : Limits) (xs : List ℕ) (n : Counts) (t : Tables) (ms : List ℕ
   next-asked : (ys : List ℕ) → AcceptableNext lim ys (flips_of lim xs n t ms) ↔ Acceptable lim ys n t ms
   unfolding flips_leave
   next-asked ys =
-      subst (λ (l : Leaves Flipped). AcceptableNext lim ys l ↔ Acceptable lim ys n t ms) (sym (passed lim xs n t ms h)) (
+      subst (λ (l : Leaves (Result Counts Refusal)). AcceptableNext lim ys l ↔ Acceptable lim ys n t ms) (sym (passed lim xs n t ms h)) (
         λ k. record { full = h.full; short = k.short; agrees = h.agrees; known = ap known-below (sym same-terms) ∙ k.known; free = k.free },
         λ k. stands-acceptable lim after t (counts_of after) (holding lim after t) ms
             (stands_in_lem lim after t ms valid (after-marked lim xs n t ms h) (tables-full lim xs n t ms h))
@@ -73,7 +73,7 @@ module _ (lim : Limits) (xs : List ℕ) (n : Counts) (t : Tables) (ms : List ℕ
       ap (then_flips lim ys) (passed lim xs n t ms h)
       ∙ passed lim ys (counts_of after) (holding lim after t) ms (subst (AcceptableNext lim ys) (passed lim xs n t ms h) ((next-asked ys).1 k))
       ∙ ap (λ s. flips_leave lim (holding lim after t) ms (flipped ys s)) (holding-back lim after t valid)
-      ∙ ap (λ u. leaves (F.Applied (counts_of (flipped ys after))) u ms) (holding-again lim (flipped ys after) after t (both-valid ys k) valid)
+      ∙ ap (λ u. leaves (Ok (counts_of (flipped ys after))) u ms) (holding-again lim (flipped ys after) after t (both-valid ys k) valid)
 
 -- ---- joined lists
 
@@ -124,14 +124,14 @@ pub nothing_changes : (lim : Limits) (n : Counts) (t : Tables) (ms : List ℕ) �
 unfolding flipped
 nothing_changes lim n t ms =
     tests lim [] n t ms (λ h. left lim [] n t ms h ∙ agree-holding lim n t (tables_agree lim [] n t ms h) (tables-full lim [] n t ms h))
-    (λ r f. ap (λ (l : Leaves Flipped). l.tables) (failed lim [] n t ms r f))
+    (λ r f. ap (λ (l : Leaves (Result Counts Refusal)). l.tables) (failed lim [] n t ms r f))
 
 -- "the empty list is accepted" where tables are full and agree, and brings no other counts
-pub nothing-applied : (lim : Limits) (n : Counts) (t : Tables) (ms : List ℕ) → full_marked lim t ms ≡ true → agree_marked lim n t ms ≡ true → (flips_of lim [] n t ms).answer ≡ F.Applied n
+pub nothing-applied : (lim : Limits) (n : Counts) (t : Tables) (ms : List ℕ) → full_marked lim t ms ≡ true → agree_marked lim n t ms ≡ true → (flips_of lim [] n t ms).answer ≡ Ok n
 unfolding flipped
 nothing-applied lim n t ms full ok =
     let h : Acceptable lim [] n t ms = record { full = full; short = omega arith; agrees = ok; known = refl; free = refl } in
-    applied lim [] n t ms h ∙ ap F.Applied (before-counts lim [] n t ms h)
+    applied lim [] n t ms h ∙ ap Ok (before-counts lim [] n t ms h)
 
 -- ---- a list given twice
 
@@ -140,8 +140,8 @@ pub twice : (lim : Limits) (ts : List ℕ) (n : Counts) (t : Tables) (ms : List 
 unfolding flips_leave counts_of
 twice lim ts n t ms h =
     record {
-      counts = ap (λ (l : Leaves Flipped). l.answer) out ∙ ap F.Applied (same-counts lim again s t valid-again valid-before same ∙ counted);
-      tables = subst (λ u. SameButList n.uncovered u t) (sym (ap (λ (l : Leaves Flipped). l.tables) out)) back;
+      counts = ap (λ (l : Leaves (Result Counts Refusal)). l.answer) out ∙ ap Ok (same-counts lim again s t valid-again valid-before same ∙ counted);
+      tables = subst (λ u. SameButList n.uncovered u t) (sym (ap (λ (l : Leaves (Result Counts Refusal)). l.tables) out)) back;
     }
   where
     s : State

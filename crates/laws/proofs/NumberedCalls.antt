@@ -5,11 +5,10 @@ use mathlib.Core.Path.{◌≡◌}
 use mathlib.Core.Bool.{true, false}
 use mathlib.Core.List.{List, []}
 use lib.ListN.{drop}
+use Rattle.std.specs.Prelude.{Result, Ok, Err}
 use Rattle.written.specs.declared.Counts.{Counts}
 use Rattle.written.specs.declared.Reason.TheVariants.{TableTooShort}
 use Rattle.written.specs.declared.Fault.{Fault}
-use Rattle.written.specs.declared.Read.{Read}
-use Rattle.written.specs.declared.Read.TheVariants as R
 use Rattle.written.specs.Limits.{Limits}
 use Rattle.written.specs.Reasons.{fault}
 use Rattle.written.specs.Clauses.{File, as_read}
@@ -31,7 +30,7 @@ use Rattle.laws.proofs.Excess.{into_same}
 
 module _ (lim : Limits) (text : List ℕ) (t : Tables) (ms : List ℕ) where
   -- for short tables the answer is reason 1, whatever the text
-  pub short-numbered : full_marked lim t ms ≡ false → numbered_of lim text t ms ≡ unchanged t ms (R.Refused (fault TableTooShort))
+  pub short-numbered : full_marked lim t ms ≡ false → numbered_of lim text t ms ≡ unchanged t ms (Err (fault TableTooShort))
   unfolding numbered_of
   short-numbered = Any.short_into lim (read_numbered lim text) t ms
 
@@ -39,7 +38,7 @@ module _ (lim : Limits) (text : List ℕ) (t : Tables) (ms : List ℕ) where
   unfolding numbered_of
   full-numbered = Any.full_into lim (read_numbered lim text) t ms
 
-  pub accepted-answer : full_marked lim t ms ≡ true → (f : File) → read_numbered lim text ≡ accepted f → (numbered_of lim text t ms).answer ≡ R.Accepted (counts_of (as_read f))
+  pub accepted-answer : full_marked lim t ms ≡ true → (f : File) → read_numbered lim text ≡ accepted f → (numbered_of lim text t ms).answer ≡ Ok (counts_of (as_read f))
   unfolding numbered_of
   accepted-answer = Any.file-answer lim (read_numbered lim text) t ms
 
@@ -53,34 +52,34 @@ module _ (lim : Limits) (text : List ℕ) (t : Tables) (ms : List ℕ) where
   marks-left = Any.marks_into lim (read_numbered lim text) t ms
 
   -- so what was read into the ten tables, with the marks cleared, is what the call leaves
-  pub ten-numbered : full_marked lim t ms ≡ true → {a : Read} {u : Tables} → ten a u ≡ ten_of (read_leaves lim t [] (read_numbered lim text))
+  pub ten-numbered : full_marked lim t ms ≡ true → {a : Result Counts Fault} {u : Tables} → ten a u ≡ ten_of (read_leaves lim t [] (read_numbered lim text))
       → leaves a u (unmarked lim ms) ≡ numbered_of lim text t ms
   unfolding numbered_of
   ten-numbered full e = Any.ten_into lim (read_numbered lim text) t ms full e
 
   -- every text is accepted or refused, and none is both
-  pub numbered-either : ((n : Counts) × ((numbered_of lim text t ms).answer ≡ R.Accepted n)) ⊎ ((e : Fault) × ((numbered_of lim text t ms).answer ≡ R.Refused e))
+  pub numbered-either : ((n : Counts) × ((numbered_of lim text t ms).answer ≡ Ok n)) ⊎ ((e : Fault) × ((numbered_of lim text t ms).answer ≡ Err e))
   unfolding numbered_of
   numbered-either = Any.into_either lim (read_numbered lim text) t ms
 
-  pub numbered-not-both : (n : Counts) (e : Fault) → (numbered_of lim text t ms).answer ≡ R.Accepted n → (numbered_of lim text t ms).answer ≡ R.Refused e → ⊥
+  pub numbered-not-both : (n : Counts) (e : Fault) → (numbered_of lim text t ms).answer ≡ Ok n → (numbered_of lim text t ms).answer ≡ Err e → ⊥
   unfolding numbered_of
   numbered-not-both = Any.into_not-both lim (read_numbered lim text) t ms
 
   -- accepted exactly if the tables are full and the text says a file
-  pub accepted-exactly : ((n : Counts) × ((numbered_of lim text t ms).answer ≡ R.Accepted n)) ↔ ((full_marked lim t ms ≡ true) × ((f : File) × (read_numbered lim text ≡ accepted f)))
+  pub accepted-exactly : ((n : Counts) × ((numbered_of lim text t ms).answer ≡ Ok n)) ↔ ((full_marked lim t ms ≡ true) × ((f : File) × (read_numbered lim text ≡ accepted f)))
   unfolding numbered_of
   accepted-exactly = Any.into_accepted-exactly lim (read_numbered lim text) t ms
 
   -- refused exactly if a table is short, or the tables are full and the text is at fault
   pub refused-exactly : (e : Fault)
-      → ((numbered_of lim text t ms).answer ≡ R.Refused e)
+      → ((numbered_of lim text t ms).answer ≡ Err e)
       ↔ (((full_marked lim t ms ≡ false) × (e ≡ fault TableTooShort)) ⊎ ((full_marked lim t ms ≡ true) × (read_numbered lim text ≡ refused e)))
   unfolding numbered_of
   refused-exactly = Any.into_refused-exactly lim (read_numbered lim text) t ms
 
   -- refused, it leaves all unchanged, by reason 1, or tables 0
-  pub numbered-refused : (e : Fault) → (numbered_of lim text t ms).answer ≡ R.Refused e
+  pub numbered-refused : (e : Fault) → (numbered_of lim text t ms).answer ≡ Err e
       → LeftAlone lim t ms e (numbered_of lim text t ms).tables (numbered_of lim text t ms).marks
       ⊎ ((read_numbered lim text ≡ refused e) × Zeroed lim t ms e (numbered_of lim text t ms).tables (numbered_of lim text t ms).marks)
   unfolding numbered_of
@@ -105,7 +104,7 @@ module _ (lim : Limits) (text : List ℕ) (small : lim.terms < 10 ^ 8) where
     numbered-filled = Any.into_filled lim (read_numbered lim text) t ms sound
 
     -- accepted, it leaves the tables of the file that the text says
-    pub numbered-accepted : (n : Counts) → (numbered_of lim text t ms).answer ≡ R.Accepted n
+    pub numbered-accepted : (n : Counts) → (numbered_of lim text t ms).answer ≡ Ok n
         → (f : File) × (full_marked lim t ms ≡ true) × (read_numbered lim text ≡ accepted f) × Filled lim f t ms n (numbered_of lim text t ms).tables (numbered_of lim text t ms).marks
     unfolding numbered_of
     numbered-accepted = Any.into_accepted lim (read_numbered lim text) t ms sound

@@ -5,9 +5,9 @@ use mathlib.Core.Bool.{true}
 use mathlib.Core.List.{List, []}
 use lib.ListN.{length}
 use lib.Dec.{ltb}
+use Rattle.std.specs.Prelude.{Ok}
 use Rattle.written.specs.declared.Counts.{Counts}
 use Rattle.written.specs.declared.Order.{Order}
-use Rattle.written.specs.declared.Flipped.TheVariants as F
 use Rattle.written.specs.Lists.{all}
 use Rattle.written.specs.Limits.{Limits}
 use Rattle.written.specs.Clauses.{File, afresh}
@@ -51,7 +51,7 @@ module _ (lim : Limits) (text : List ℕ) (small : lim.terms < 10 ^ 8) (f : File
   -- such a list is applied, and leaves what is demanded
   pub numbered-flips : (vs ts : List ℕ) (t : Tables) (ms : List ℕ) → length vs ≡ length f.names → Bits vs → Marked lim (afresh f vs) ms → length ts ≤ lim.list
       → all (λ v. ltb v (length f.names)) ts ≡ true → all (is_free ms) ts ≡ true → are_full lim t ≡ true
-      → (m : Counts) × ((flips_of lim ts (counts_of (afresh f vs)) (holding lim (afresh f vs) t) ms).answer ≡ F.Applied m)
+      → (m : Counts) × ((flips_of lim ts (counts_of (afresh f vs)) (holding lim (afresh f vs) t) ms).answer ≡ Ok m)
       × Accepted lim ts (counts_of (afresh f vs)) m (holding lim (afresh f vs) t) ms
   numbered-flips vs ts t ms one_each bits marked few known free full =
       acceptable-flips lim ts _ _ ms (numbered-acceptable vs ts t ms one_each bits marked few known free full)
@@ -59,7 +59,7 @@ module _ (lim : Limits) (text : List ℕ) (small : lim.terms < 10 ^ 8) (f : File
   -- a text that is read and flipped: no term is pinned
   pub flips-numbered : (ts : List ℕ) (t : Tables) (ms : List ℕ) → full_marked lim t ms ≡ true → length ts ≤ lim.list
       → all (λ v. ltb v (counts_numbered lim text t ms).terms) ts ≡ true
-      → (m : Counts) × ((flips_of lim ts (counts_numbered lim text t ms) (numbered_of lim text t ms).tables (numbered_of lim text t ms).marks).answer ≡ F.Applied m)
+      → (m : Counts) × ((flips_of lim ts (counts_numbered lim text t ms) (numbered_of lim text t ms).tables (numbered_of lim text t ms).marks).answer ≡ Ok m)
       × Accepted lim ts (counts_numbered lim text t ms) m (numbered_of lim text t ms).tables (numbered_of lim text t ms).marks
   flips-numbered ts t ms full few known =
       acceptable-flips lim ts _ _ _ (filled-acceptable lim f ts t ms _ _ _ (numbered-filled lim text small t ms full f read) few known)

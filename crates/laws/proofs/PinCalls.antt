@@ -9,12 +9,11 @@ use lib.ListN.{length, get_or, set, take, length-set, length-take, get_or-eq_def
 use lib.Seq.{get_or-take, get_or-set_same, get_or-set_other}
 use lib.Dec.{eqb, ltb}
 use borrow.Author.Tests.{eq-eqb, ne_eqb, eqb-true, eqb-false, lt-ltb, le-ltb, leb-true}
+use Rattle.std.specs.Prelude.{Result, Ok, Err}
 use Rattle.written.specs.declared.Counts.{Counts}
 use Rattle.written.specs.declared.Reason.{Reason}
 use Rattle.written.specs.declared.Reason.TheVariants.{TableTooShort}
 use Rattle.written.specs.declared.Refusal.{Refusal}
-use Rattle.written.specs.declared.Flipped.{Flipped}
-use Rattle.written.specs.declared.Flipped.TheVariants as F
 use Rattle.written.specs.Lists.{all}
 use Rattle.written.specs.Limits.{Limits}
 use Rattle.written.specs.Reasons.{number_of}
@@ -65,17 +64,17 @@ module _ (k m : ℕ) (ms : List ℕ) where
 
 -- ---- the tests
 
-abbrev is_applied : Flipped → Bool
-is_applied (F.Applied m) = true
-is_applied (F.Refused e) = false
+abbrev is_applied : Result Counts Refusal → Bool
+is_applied (Ok m) = true
+is_applied (Err e) = false
 
-abbrev refusal_in : Flipped → Refusal
-refusal_in (F.Applied m) = record { reason = TableTooShort; counts = m }
-refusal_in (F.Refused e) = e
+abbrev refusal_in : Result Counts Refusal → Refusal
+refusal_in (Ok m) = record { reason = TableTooShort; counts = m }
+refusal_in (Err e) = e
 
 -- of a call that leaves l where all tests are passed
-module _ (lim : Limits) (k : ℕ) (n : Counts) (t : Tables) (ms : List ℕ) (l : Leaves Flipped) where
-  abbrev call : Leaves Flipped
+module _ (lim : Limits) (k : ℕ) (n : Counts) (t : Tables) (ms : List ℕ) (l : Leaves (Result Counts Refusal)) where
+  abbrev call : Leaves (Result Counts Refusal)
   call = term_tested lim k n t ms l
 
   pub tests : {A : Type 0} → (Known lim k n t ms → A) → ((r : Reason) → Fails lim k n t ms r → A) → A
@@ -99,30 +98,30 @@ module _ (lim : Limits) (k : ℕ) (n : Counts) (t : Tables) (ms : List ℕ) (l :
   failed-reason : (r : Reason) → Fails lim k n t ms r → reason_in call ≡ number_of r
   failed-reason r f = ap reason_in (failed r f)
 
-  refused-answer : (r : Reason) → Fails lim k n t ms r → call.answer ≡ F.Refused (record { reason = r; counts = n })
-  refused-answer r f = ap (λ (x : Leaves Flipped). x.answer) (failed r f)
+  refused-answer : (r : Reason) → Fails lim k n t ms r → call.answer ≡ Err (record { reason = r; counts = n })
+  refused-answer r f = ap (λ (x : Leaves (Result Counts Refusal)). x.answer) (failed r f)
 
   -- what is left by a call that is refused
-  module _ {m : Counts} (applied : l.answer ≡ F.Applied m) where
+  module _ {m : Counts} (applied : l.answer ≡ Ok m) where
     passed-reason : Known lim k n t ms → reason_in call ≡ 0
-    passed-reason h = ap reason_in (passed h) ∙ ap (λ (a : Flipped). (flip_values a).reason) applied
+    passed-reason h = ap reason_in (passed h) ∙ ap (λ (a : Result Counts Refusal). (flip_values a).reason) applied
 
-    passed-answer : Known lim k n t ms → call.answer ≡ F.Applied m
-    passed-answer h = ap (λ (x : Leaves Flipped). x.answer) (passed h) ∙ applied
+    passed-answer : Known lim k n t ms → call.answer ≡ Ok m
+    passed-answer h = ap (λ (x : Leaves (Result Counts Refusal)). x.answer) (passed h) ∙ applied
 
-    was-known : {c : Counts} → call.answer ≡ F.Applied c → Known lim k n t ms
+    was-known : {c : Counts} → call.answer ≡ Ok c → Known lim k n t ms
     was-known e = tests (λ h. h) (λ r f. absurd (false≢true (ap is_applied (sym (refused-answer r f) ∙ e))))
 
-    refused : (e : Refusal) → call.answer ≡ F.Refused e → Refused lim k n t ms e call
+    refused : (e : Refusal) → call.answer ≡ Err e → Refused lim k n t ms e call
     refused e q =
         tests (λ h. absurd (true≢false (ap is_applied (sym (passed-answer h) ∙ q))))
         (λ r f.
         let same = ap refusal_in (sym (refused-answer r f) ∙ q) in
         record {
           fails = subst (λ (x : Refusal). Fails lim k n t ms x.reason) same f;
-          left = ap (λ (x : Leaves Flipped). x.tables) (failed r f);
-          marks = ap (λ (x : Leaves Flipped). x.marks) (failed r f);
-          values = ap (λ (m : Counts). flip_values (F.Refused (record { reason = e.reason; counts = m }))) (ap (λ (x : Refusal). x.counts) (sym same));
+          left = ap (λ (x : Leaves (Result Counts Refusal)). x.tables) (failed r f);
+          marks = ap (λ (x : Leaves (Result Counts Refusal)). x.marks) (failed r f);
+          values = ap (λ (m : Counts). flip_values (Err (record { reason = e.reason; counts = m }))) (ap (λ (x : Refusal). x.counts) (sym same));
         })
 
     by-reason : {A : Type 0} → (reason_in call ≡ 0 → Known lim k n t ms → A) → (reason_in call ≡ 1 → full_marked lim t ms ≡ false → A)
@@ -197,7 +196,7 @@ module _ (lim : Limits) (k : ℕ) (n : Counts) (t : Tables) (ms : List ℕ) (h :
       let was = holds_at ms (state_in n t).values before-hold j l in
       record { small = omega (arith, other, was.small); value = rw other was.value }))
 
-  lifted : Lifted lim k n t ms (record { answer = F.Applied n; tables = t; marks = set ms k 0 })
+  lifted : Lifted lim k n t ms (record { answer = Ok n; tables = t; marks = set ms k 0 })
   lifted =
       record {
         known = h;
@@ -305,28 +304,28 @@ module _ (lim : Limits) (k v : ℕ) (n : Counts) (t : Tables) (ms : List ℕ) (h
 
 -- ---- the calls
 
-abbrev counts_in : Flipped → Counts
-counts_in (F.Applied m) = m
-counts_in (F.Refused e) = e.counts
+abbrev counts_in : Result Counts Refusal → Counts
+counts_in (Ok m) = m
+counts_in (Err e) = e.counts
 
 module _ (lim : Limits) (k v : ℕ) (n : Counts) (t : Tables) (ms : List ℕ) where
-  abbrev pin_leaves : Leaves Flipped
+  abbrev pin_leaves : Leaves (Result Counts Refusal)
   pin_leaves = flips_leave lim t (set ms k (1 + value_asked v)) (state_pinned k v n t)
 
-  pin_applies : pin_leaves.answer ≡ F.Applied (counts_of (state_pinned k v n t))
+  pin_applies : pin_leaves.answer ≡ Ok (counts_of (state_pinned k v n t))
   unfolding flips_leave
   pin_applies = refl
 
   -- "Pinning a term marks it and flips it if its value differs"
-  pub pin_does : (m : Counts) → (pin_of lim k v n t ms).answer ≡ F.Applied m → Pinned lim k v n t ms m (pin_of lim k v n t ms)
+  pub pin_does : (m : Counts) → (pin_of lim k v n t ms).answer ≡ Ok m → Pinned lim k v n t ms m (pin_of lim k v n t ms)
   unfolding pin_of
   pin_does m e =
       let h = was-known lim k n t ms pin_leaves pin_applies e in
       let is = passed lim k n t ms pin_leaves h in
-      let counts = ap counts_in (sym (ap (λ (l : Leaves Flipped). l.answer) is ∙ pin_applies) ∙ e) in
-      subst₂ (λ (c : Counts) (l : Leaves Flipped). Pinned lim k v n t ms c l) counts (sym is) (pinned lim k v n t ms h)
+      let counts = ap counts_in (sym (ap (λ (l : Leaves (Result Counts Refusal)). l.answer) is ∙ pin_applies) ∙ e) in
+      subst₂ (λ (c : Counts) (l : Leaves (Result Counts Refusal)). Pinned lim k v n t ms c l) counts (sym is) (pinned lim k v n t ms h)
 
-  pub pin-refused : (e : Refusal) → (pin_of lim k v n t ms).answer ≡ F.Refused e → Refused lim k n t ms e (pin_of lim k v n t ms)
+  pub pin-refused : (e : Refusal) → (pin_of lim k v n t ms).answer ≡ Err e → Refused lim k n t ms e (pin_of lim k v n t ms)
   unfolding pin_of
   pin-refused = refused lim k n t ms pin_leaves pin_applies
 
@@ -335,17 +334,17 @@ module _ (lim : Limits) (k v : ℕ) (n : Counts) (t : Tables) (ms : List ℕ) wh
   pin-given = given lim k n t ms pin_leaves pin_applies
 
 module _ (lim : Limits) (k : ℕ) (n : Counts) (t : Tables) (ms : List ℕ) where
-  abbrev lift_leaves : Leaves Flipped
-  lift_leaves = record { answer = F.Applied n; tables = t; marks = set ms k 0 }
+  abbrev lift_leaves : Leaves (Result Counts Refusal)
+  lift_leaves = record { answer = Ok n; tables = t; marks = set ms k 0 }
 
   -- "lifting a pin clears only the mark"
-  pub lift_does : (m : Counts) → (lift_of lim k n t ms).answer ≡ F.Applied m → Lifted lim k n t ms (lift_of lim k n t ms)
+  pub lift_does : (m : Counts) → (lift_of lim k n t ms).answer ≡ Ok m → Lifted lim k n t ms (lift_of lim k n t ms)
   unfolding lift_of
   lift_does m e =
       let h = was-known lim k n t ms lift_leaves refl e in
       subst (Lifted lim k n t ms) (sym (passed lim k n t ms lift_leaves h)) (lifted lim k n t ms h)
 
-  pub lift-refused : (e : Refusal) → (lift_of lim k n t ms).answer ≡ F.Refused e → Refused lim k n t ms e (lift_of lim k n t ms)
+  pub lift-refused : (e : Refusal) → (lift_of lim k n t ms).answer ≡ Err e → Refused lim k n t ms e (lift_of lim k n t ms)
   unfolding lift_of
   lift-refused = refused lim k n t ms lift_leaves refl
 

@@ -8,13 +8,12 @@ use mathlib.Core.List.{List, [], ◌∷◌}
 use native.Mathlib.Omega.{arith}
 use lib.ListN.{length, get_or, take, drop, length-replicate, get_or-replicate, get_or-append}
 use borrow.Author.Tests.{le-ltb, lt-ltb, eqb-false, ne_eqb, not-true}
+use Rattle.std.specs.Prelude.{Result, Ok, Err}
 use Rattle.scan.specs.Scan.{scan, open_end}
 use Rattle.scan.proofs.Laws.{get_d_any}
 use Rattle.written.specs.declared.Counts.{Counts}
 use Rattle.written.specs.declared.Reason.TheVariants.{TableTooShort, TextTooLong, TextCut, NoClause}
 use Rattle.written.specs.declared.Fault.{Fault}
-use Rattle.written.specs.declared.Read.{Read}
-use Rattle.written.specs.declared.Read.TheVariants as R
 use Rattle.written.specs.Lists.{zeros}
 use Rattle.written.specs.Limits.{Limits}
 use Rattle.written.specs.Reasons.{number_of, fault}
@@ -87,13 +86,13 @@ sound-valid lim r sound f e = as_read-valid lim f (sound-proper lim r sound f e)
 
 -- ---- what a call answers and leaves
 
-abbrev is_accepted : Read → Bool
-is_accepted (R.Accepted n) = true
-is_accepted (R.Refused e) = false
+abbrev is_accepted : Result Counts Fault → Bool
+is_accepted (Ok n) = true
+is_accepted (Err e) = false
 
-abbrev fault_in : Read → Fault
-fault_in (R.Accepted n) = fault NoClause
-fault_in (R.Refused e) = e
+abbrev fault_in : Result Counts Fault → Fault
+fault_in (Ok n) = fault NoClause
+fault_in (Err e) = e
 
 leaves-reason : (lim : Limits) (t : Tables) (ms : List ℕ) (r : Reading) → (read_values (read_leaves lim t ms r).answer).reason ≡ reason_in r
 unfolding read_leaves
@@ -113,7 +112,7 @@ same-ten lim t ms (refused e) = refl
 
 module _ (lim : Limits) (r : Reading) (t : Tables) (ms : List ℕ) where
   -- for short tables the answer is reason 1, whatever the text
-  pub short_into : full_marked lim t ms ≡ false → read_into lim r t ms ≡ unchanged t ms (R.Refused (fault TableTooShort))
+  pub short_into : full_marked lim t ms ≡ false → read_into lim r t ms ≡ unchanged t ms (Err (fault TableTooShort))
   short_into h = rw h refl
 
   pub full_into : full_marked lim t ms ≡ true → read_into lim r t ms ≡ read_leaves lim t ms r
@@ -124,10 +123,10 @@ module _ (lim : Limits) (r : Reading) (t : Tables) (ms : List ℕ) where
       → (full_marked lim t ms ≡ true → (e : Fault) → r ≡ refused e → A) → A
   by-outcome short told faulty = by_cases (full_marked lim t ms) (λ full. by-reading r (told full) (faulty full)) short
 
-  pub short-answer : full_marked lim t ms ≡ false → (read_into lim r t ms).answer ≡ R.Refused (fault TableTooShort)
+  pub short-answer : full_marked lim t ms ≡ false → (read_into lim r t ms).answer ≡ Err (fault TableTooShort)
   short-answer h = the_answer (short_into h)
 
-  pub file-answer : full_marked lim t ms ≡ true → (f : File) → r ≡ accepted f → (read_into lim r t ms).answer ≡ R.Accepted (counts_of (as_read f))
+  pub file-answer : full_marked lim t ms ≡ true → (f : File) → r ≡ accepted f → (read_into lim r t ms).answer ≡ Ok (counts_of (as_read f))
   unfolding read_leaves
   file-answer h f e = the_answer (full_into h ∙ ap (read_leaves lim t ms) e)
 
@@ -135,7 +134,7 @@ module _ (lim : Limits) (r : Reading) (t : Tables) (ms : List ℕ) where
   unfolding read_leaves
   file-tables h f e = the_tables (full_into h ∙ ap (read_leaves lim t ms) e)
 
-  pub fault-answer : full_marked lim t ms ≡ true → (e : Fault) → r ≡ refused e → (read_into lim r t ms).answer ≡ R.Refused e
+  pub fault-answer : full_marked lim t ms ≡ true → (e : Fault) → r ≡ refused e → (read_into lim r t ms).answer ≡ Err e
   unfolding read_leaves
   fault-answer h e q = the_answer (full_into h ∙ ap (read_leaves lim t ms) q)
 
@@ -148,7 +147,7 @@ module _ (lim : Limits) (r : Reading) (t : Tables) (ms : List ℕ) where
   marks_into h = the_marks (full_into h) ∙ leaves-marks lim t ms r
 
   -- so what was read into the ten tables, with the marks cleared, is what the call leaves
-  pub ten_into : full_marked lim t ms ≡ true → {a : Read} {u : Tables} → ten a u ≡ ten_of (read_leaves lim t [] r) → leaves a u (unmarked lim ms) ≡ read_into lim r t ms
+  pub ten_into : full_marked lim t ms ≡ true → {a : Result Counts Fault} {u : Tables} → ten a u ≡ ten_of (read_leaves lim t [] r) → leaves a u (unmarked lim ms) ≡ read_into lim r t ms
   ten_into h e = ten-marked (e ∙ same-ten lim t ms r ∙ sym (ap ten_of (full_into h))) (sym (marks_into h))
 
 -- ---- what an accepted call leaves
@@ -198,17 +197,17 @@ zeroed lim t ms e full =
 
 module _ (lim : Limits) (r : Reading) (t : Tables) (ms : List ℕ) where
   -- a refusal is the text's where the tables are full
-  pub full-fault : full_marked lim t ms ≡ true → (e : Fault) → (read_into lim r t ms).answer ≡ R.Refused e → r ≡ refused e
+  pub full-fault : full_marked lim t ms ≡ true → (e : Fault) → (read_into lim r t ms).answer ≡ Err e → r ≡ refused e
   full-fault full e q =
       by-reading r (λ f g. absurd (true≢false (ap is_accepted (sym (file-answer lim r t ms full f g) ∙ q))))
       (λ d g. g ∙ ap refused (ap fault_in (sym (fault-answer lim r t ms full d g) ∙ q)))
 
   -- and reason 1 where one is short
-  pub short-fault : full_marked lim t ms ≡ false → (e : Fault) → (read_into lim r t ms).answer ≡ R.Refused e → e ≡ fault TableTooShort
+  pub short-fault : full_marked lim t ms ≡ false → (e : Fault) → (read_into lim r t ms).answer ≡ Err e → e ≡ fault TableTooShort
   short-fault short e q = ap fault_in (sym q ∙ short-answer lim r t ms short)
 
   -- refused, it leaves all unchanged, by reason 1, or tables 0
-  pub into_refused : (e : Fault) → (read_into lim r t ms).answer ≡ R.Refused e
+  pub into_refused : (e : Fault) → (read_into lim r t ms).answer ≡ Err e
       → LeftAlone lim t ms e (read_into lim r t ms).tables (read_into lim r t ms).marks
       ⊎ ((r ≡ refused e) × Zeroed lim t ms e (read_into lim r t ms).tables (read_into lim r t ms).marks)
   into_refused e q =
@@ -221,28 +220,28 @@ module _ (lim : Limits) (r : Reading) (t : Tables) (ms : List ℕ) where
         reason = short-fault short e q;
         left = the_tables (short_into lim r t ms short);
         marks = the_marks (short_into lim r t ms short);
-        values = ap (λ (x : Fault). read_values (R.Refused x)) (short-fault short e q);
+        values = ap (λ (x : Fault). read_values (Err x)) (short-fault short e q);
         disagrees = tables-disagree lim (read_into lim r t ms).tables (read_into lim r t ms).marks no_counts (none-agree lim (read_into lim r t ms).tables);
       }))
 
   -- every text is accepted or refused, and none is both
-  pub into_either : ((n : Counts) × ((read_into lim r t ms).answer ≡ R.Accepted n)) ⊎ ((e : Fault) × ((read_into lim r t ms).answer ≡ R.Refused e))
+  pub into_either : ((n : Counts) × ((read_into lim r t ms).answer ≡ Ok n)) ⊎ ((e : Fault) × ((read_into lim r t ms).answer ≡ Err e))
   into_either =
       by-outcome lim r t ms (λ s. inr (fault TableTooShort, short-answer lim r t ms s)) (λ full f e. inl (counts_of (as_read f), file-answer lim r t ms full f e))
       (λ full e q. inr (e, fault-answer lim r t ms full e q))
 
-  pub into_not-both : (n : Counts) (e : Fault) → (read_into lim r t ms).answer ≡ R.Accepted n → (read_into lim r t ms).answer ≡ R.Refused e → ⊥
+  pub into_not-both : (n : Counts) (e : Fault) → (read_into lim r t ms).answer ≡ Ok n → (read_into lim r t ms).answer ≡ Err e → ⊥
   into_not-both n e a q = true≢false (ap is_accepted (sym a ∙ q))
 
   -- an accepted call was lent full tables, and a text that says a file
-  says-file : (n : Counts) → (read_into lim r t ms).answer ≡ R.Accepted n
+  says-file : (n : Counts) → (read_into lim r t ms).answer ≡ Ok n
       → (f : File) × (full_marked lim t ms ≡ true) × (r ≡ accepted f)
   says-file n q =
       by-outcome lim r t ms (λ s. absurd (false≢true (ap is_accepted (sym (short-answer lim r t ms s) ∙ q)))) (λ full f e. (f, full, e))
       (λ full e g. absurd (false≢true (ap is_accepted (sym (fault-answer lim r t ms full e g) ∙ q))))
 
   -- accepted exactly if the tables are full and the text says a file
-  pub into_accepted-exactly : ((n : Counts) × ((read_into lim r t ms).answer ≡ R.Accepted n)) ↔ ((full_marked lim t ms ≡ true) × ((f : File) × (r ≡ accepted f)))
+  pub into_accepted-exactly : ((n : Counts) × ((read_into lim r t ms).answer ≡ Ok n)) ↔ ((full_marked lim t ms ≡ true) × ((f : File) × (r ≡ accepted f)))
   into_accepted-exactly = (
     λ a. let h = says-file a.0 a.1 in (h.1, (h.0, h.2)),
     λ h. (counts_of (as_read h.1.0), file-answer lim r t ms h.0 h.1.0 h.1.1),
@@ -250,20 +249,20 @@ module _ (lim : Limits) (r : Reading) (t : Tables) (ms : List ℕ) where
 
   -- refused exactly if a table is short, or the tables are full and the text is at fault
   pub into_refused-exactly : (e : Fault)
-      → ((read_into lim r t ms).answer ≡ R.Refused e) ↔ (((full_marked lim t ms ≡ false) × (e ≡ fault TableTooShort)) ⊎ ((full_marked lim t ms ≡ true) × (r ≡ refused e)))
+      → ((read_into lim r t ms).answer ≡ Err e) ↔ (((full_marked lim t ms ≡ false) × (e ≡ fault TableTooShort)) ⊎ ((full_marked lim t ms ≡ true) × (r ≡ refused e)))
   into_refused-exactly e = (λ q. by_cases (full_marked lim t ms) (λ full. inr (full, full-fault full e q)) (λ short. inl (short, short-fault short e q)), back)
     where
-      back : ((full_marked lim t ms ≡ false) × (e ≡ fault TableTooShort)) ⊎ ((full_marked lim t ms ≡ true) × (r ≡ refused e)) → (read_into lim r t ms).answer ≡ R.Refused e
-      back (inl h) = short-answer lim r t ms h.0 ∙ ap R.Refused (sym h.1)
+      back : ((full_marked lim t ms ≡ false) × (e ≡ fault TableTooShort)) ⊎ ((full_marked lim t ms ≡ true) × (r ≡ refused e)) → (read_into lim r t ms).answer ≡ Err e
+      back (inl h) = short-answer lim r t ms h.0 ∙ ap Err (sym h.1)
       back (inr h) = fault-answer lim r t ms h.0 e h.1
 
   -- which reason is given
 
   pub full-reason : full_marked lim t ms ≡ true → reason_into lim r t ms ≡ reason_in r
-  full-reason h = ap (λ (l : Leaves Read). (read_values l.answer).reason) (full_into lim r t ms h) ∙ leaves-reason lim t ms r
+  full-reason h = ap (λ (l : Leaves (Result Counts Fault)). (read_values l.answer).reason) (full_into lim r t ms h) ∙ leaves-reason lim t ms r
 
   pub short-reason : full_marked lim t ms ≡ false → reason_into lim r t ms ≡ 1
-  short-reason h = ap (λ (a : Read). (read_values a).reason) (short-answer lim r t ms h)
+  short-reason h = ap (λ (a : Result Counts Fault). (read_values a).reason) (short-answer lim r t ms h)
 
   -- a reason of the text is given where the tables are full
   pub where_full : (k : ℕ) {X : Type 0} → (k ≡ 1 → ⊥) → (reason_in r ≡ k) ↔ X → (reason_into lim r t ms ≡ k) ↔ ((full_marked lim t ms ≡ true) × X)
@@ -285,19 +284,19 @@ module _ (lim : Limits) (r : Reading) (t : Tables) (ms : List ℕ) where
     pub into_filled : full_marked lim t ms ≡ true → (f : File) → r ≡ accepted f
         → Filled lim f t ms (counts_into lim r t ms) (read_into lim r t ms).tables (read_into lim r t ms).marks
     into_filled full f e =
-        subst (λ n. Filled lim f t ms n (read_into lim r t ms).tables (read_into lim r t ms).marks) (sym (ap (λ (a : Read). (read_values a).counts) (file-answer lim r t ms full f e)))
+        subst (λ n. Filled lim f t ms n (read_into lim r t ms).tables (read_into lim r t ms).marks) (sym (ap (λ (a : Result Counts Fault). (read_values a).counts) (file-answer lim r t ms full f e)))
         (subst₂ (λ u us. Filled lim f t ms (counts_of (as_read f)) u us) (sym (file-tables lim r t ms full f e)) (sym (marks_into lim r t ms full))
         (file-filled lim f t ms (sound-proper lim r sound f e) full))
 
     -- accepted, it leaves the tables of the file that the text says
-    pub into_accepted : (n : Counts) → (read_into lim r t ms).answer ≡ R.Accepted n
+    pub into_accepted : (n : Counts) → (read_into lim r t ms).answer ≡ Ok n
         → (f : File) × (full_marked lim t ms ≡ true) × (r ≡ accepted f) × Filled lim f t ms n (read_into lim r t ms).tables (read_into lim r t ms).marks
     into_accepted n q =
         let h = says-file n q in (
           h.0,
           h.1,
           h.2,
-          subst (λ m. Filled lim h.0 t ms m (read_into lim r t ms).tables (read_into lim r t ms).marks) (ap (λ (a : Read). (read_values a).counts) q) (into_filled h.1 h.0 h.2),
+          subst (λ m. Filled lim h.0 t ms m (read_into lim r t ms).tables (read_into lim r t ms).marks) (ap (λ (a : Result Counts Fault). (read_values a).counts) q) (into_filled h.1 h.0 h.2),
         )
 
     -- the tables left agree with the counts given exactly where no reason is given
@@ -309,10 +308,10 @@ module _ (lim : Limits) (r : Reading) (t : Tables) (ms : List ℕ) where
     )
       where
         disagrees : (e : Fault) → agree_marked lim (counts_into lim r t ms) (read_into lim r t ms).tables (read_into lim r t ms).marks ≡ true
-            → (read_into lim r t ms).answer ≡ R.Refused e → ⊥
+            → (read_into lim r t ms).answer ≡ Err e → ⊥
         disagrees e h q =
             true≢false
-            (sym h ∙ ap (λ (a : Read). agree_marked lim (read_values a).counts (read_into lim r t ms).tables (read_into lim r t ms).marks) q
+            (sym h ∙ ap (λ (a : Result Counts Fault). agree_marked lim (read_values a).counts (read_into lim r t ms).tables (read_into lim r t ms).marks) q
             ∙ tables-disagree lim (read_into lim r t ms).tables (read_into lim r t ms).marks no_counts (none-agree lim (read_into lim r t ms).tables))
 
 -- ---- what stood before makes no difference
@@ -334,7 +333,7 @@ module _ (lim : Limits) (r : Reading) (sound : Sound lim r) where
   pub into_over : (first : Reading) → Sound lim first → (t : Tables) (ms : List ℕ)
       → read_into lim r (read_into lim first t ms).tables (read_into lim first t ms).marks ≡ read_into lim r t ms
   into_over first before t ms =
-      by-outcome lim first t ms (λ s. ap (λ (l : Leaves Read). read_into lim r l.tables l.marks) (short_into lim first t ms s))
+      by-outcome lim first t ms (λ s. ap (λ (l : Leaves (Result Counts Fault)). read_into lim r l.tables l.marks) (short_into lim first t ms s))
       (λ full f e.
       let v = sound-valid lim first before f e in
       ap₂ (λ u us. read_into lim r u us) (file-tables lim first t ms full f e) (marks_into lim first t ms full)
@@ -445,7 +444,7 @@ open_exactly (b ∷ s) =
 -- ---- the call, of our own text
 
 module _ (lim : Limits) (text : List ℕ) (t : Tables) (ms : List ℕ) where
-  pub short-reading : full_marked lim t ms ≡ false → reading_of lim text t ms ≡ unchanged t ms (R.Refused (fault TableTooShort))
+  pub short-reading : full_marked lim t ms ≡ false → reading_of lim text t ms ≡ unchanged t ms (Err (fault TableTooShort))
   unfolding reading_of
   short-reading = short_into lim (read_text lim text) t ms
 
@@ -453,7 +452,7 @@ module _ (lim : Limits) (text : List ℕ) (t : Tables) (ms : List ℕ) where
   unfolding reading_of
   full-reading = full_into lim (read_text lim text) t ms
 
-  pub accepted-answer : full_marked lim t ms ≡ true → (f : File) → read_text lim text ≡ accepted f → (reading_of lim text t ms).answer ≡ R.Accepted (counts_of (as_read f))
+  pub accepted-answer : full_marked lim t ms ≡ true → (f : File) → read_text lim text ≡ accepted f → (reading_of lim text t ms).answer ≡ Ok (counts_of (as_read f))
   unfolding reading_of
   accepted-answer = file-answer lim (read_text lim text) t ms
 
@@ -465,7 +464,7 @@ module _ (lim : Limits) (text : List ℕ) (t : Tables) (ms : List ℕ) where
   unfolding reading_of
   marks-left = marks_into lim (read_text lim text) t ms
 
-  pub ten-read : full_marked lim t ms ≡ true → {a : Read} {u : Tables} → ten a u ≡ ten_of (read_leaves lim t [] (read_text lim text))
+  pub ten-read : full_marked lim t ms ≡ true → {a : Result Counts Fault} {u : Tables} → ten a u ≡ ten_of (read_leaves lim t [] (read_text lim text))
       → leaves a u (unmarked lim ms) ≡ reading_of lim text t ms
   unfolding reading_of
   ten-read full e = ten_into lim (read_text lim text) t ms full e
@@ -477,13 +476,13 @@ module _ (lim : Limits) (text : List ℕ) (t : Tables) (ms : List ℕ) where
   reading-filled = into_filled lim (read_text lim text) t ms (reading-sound lim text)
 
   -- accepted, it leaves the tables of the file that the text says
-  pub reading-accepted : (n : Counts) → (reading_of lim text t ms).answer ≡ R.Accepted n
+  pub reading-accepted : (n : Counts) → (reading_of lim text t ms).answer ≡ Ok n
       → (f : File) × (full_marked lim t ms ≡ true) × (read_text lim text ≡ accepted f) × Filled lim f t ms n (reading_of lim text t ms).tables (reading_of lim text t ms).marks
   unfolding reading_of
   reading-accepted = into_accepted lim (read_text lim text) t ms (reading-sound lim text)
 
   -- refused, it leaves all unchanged, by reason 1, or tables 0
-  pub reading-refused : (e : Fault) → (reading_of lim text t ms).answer ≡ R.Refused e
+  pub reading-refused : (e : Fault) → (reading_of lim text t ms).answer ≡ Err e
       → LeftAlone lim t ms e (reading_of lim text t ms).tables (reading_of lim text t ms).marks
       ⊎ Emptied lim text t ms e (reading_of lim text t ms).tables (reading_of lim text t ms).marks
   unfolding reading_of
@@ -511,29 +510,29 @@ module _ (lim : Limits) (text : List ℕ) (t : Tables) (ms : List ℕ) where
           })
 
   -- every text is accepted or refused, and none is both
-  pub reading-either : ((n : Counts) × ((reading_of lim text t ms).answer ≡ R.Accepted n)) ⊎ ((e : Fault) × ((reading_of lim text t ms).answer ≡ R.Refused e))
+  pub reading-either : ((n : Counts) × ((reading_of lim text t ms).answer ≡ Ok n)) ⊎ ((e : Fault) × ((reading_of lim text t ms).answer ≡ Err e))
   unfolding reading_of
   reading-either = into_either lim (read_text lim text) t ms
 
-  pub reading-not-both : (n : Counts) (e : Fault) → (reading_of lim text t ms).answer ≡ R.Accepted n → (reading_of lim text t ms).answer ≡ R.Refused e → ⊥
+  pub reading-not-both : (n : Counts) (e : Fault) → (reading_of lim text t ms).answer ≡ Ok n → (reading_of lim text t ms).answer ≡ Err e → ⊥
   unfolding reading_of
   reading-not-both = into_not-both lim (read_text lim text) t ms
 
   -- accepted exactly if the tables are full and the text says a file
-  pub accepted-exactly : ((n : Counts) × ((reading_of lim text t ms).answer ≡ R.Accepted n)) ↔ ((full_marked lim t ms ≡ true) × ((f : File) × (read_text lim text ≡ accepted f)))
+  pub accepted-exactly : ((n : Counts) × ((reading_of lim text t ms).answer ≡ Ok n)) ↔ ((full_marked lim t ms ≡ true) × ((f : File) × (read_text lim text ≡ accepted f)))
   unfolding reading_of
   accepted-exactly = into_accepted-exactly lim (read_text lim text) t ms
 
   -- refused exactly if a table is short, or the tables are full and the text is at fault
   pub refused-exactly : (e : Fault)
-      → ((reading_of lim text t ms).answer ≡ R.Refused e)
+      → ((reading_of lim text t ms).answer ≡ Err e)
       ↔ (((full_marked lim t ms ≡ false) × (e ≡ fault TableTooShort)) ⊎ ((full_marked lim t ms ≡ true) × (read_text lim text ≡ refused e)))
   unfolding reading_of
   refused-exactly = into_refused-exactly lim (read_text lim text) t ms
 
   -- which reason is given
 
-  from-left : (e : Fault) → (names_line e.reason ≡ true) ⊎ (e.reason ≡ NoClause) → ((reading_of lim text t ms).answer ≡ R.Refused e) ↔ Stopped lim text t ms e
+  from-left : (e : Fault) → (names_line e.reason ≡ true) ⊎ (e.reason ≡ NoClause) → ((reading_of lim text t ms).answer ≡ Err e) ↔ Stopped lim text t ms e
   unfolding reading_of
   from-left e late = (
     λ q. by_cases (full_marked lim t ms)

@@ -9,11 +9,11 @@ use native.Mathlib.Nat.{mul-le-mul}
 use lib.ListN.{length, drop, length-append, length-drop}
 use lib.Dec.{ltb}
 use borrow.Author.Tests.{ltb-false}
+use Rattle.std.specs.Prelude.{Result, Ok, Err}
 use Rattle.scan.specs.Text.{bytes}
+use Rattle.written.specs.declared.Sheet.{Sheet}
 use Rattle.written.specs.declared.Form.TheVariants.{Own}
 use Rattle.written.specs.declared.Order.{Order}
-use Rattle.written.specs.declared.Ordered.{Ordered}
-use Rattle.written.specs.declared.Ordered.TheVariants.{Accepted, Refused}
 use Rattle.written.specs.declared.Fault.{Fault}
 use Rattle.written.specs.declared.Reason.TheVariants.{TextTooLong}
 use Rattle.written.specs.Limits.{Limits}
@@ -110,10 +110,10 @@ module _ (lim : Limits) (few : lim.terms < 10 ^ 9) (short : lim.text + 1 < 10 ^ 
   reading-fits o t r h (accepted f) q = walked-length lim o [] f r (reading-proper lim t f q).few-terms few
   reading-fits o t r h (refused e) q = refusal-fits lim e short (let n = refusal-line-bound lim t e q in omega arith)
 
-  sheet-fits : (input : List ℕ) → length input ≤ lim.text → (s : Ordered) → Judged (length input) s → length (said (after_sheet_as Own lim input s)) ≤ report_size lim
+  sheet-fits : (input : List ℕ) → length input ≤ lim.text → (s : Result Sheet Fault) → Judged (length input) s → length (said (after_sheet_as Own lim input s)) ≤ report_size lim
   unfolding after_sheet_as said_as read_text
-  sheet-fits input h (Accepted s) j = reading-fits s.order (drop s.at input) (ranged s.order j.0) (omega (arith, length-drop s.at input)) _ refl
-  sheet-fits input h (Refused e) j = refusal-fits lim e short (omega (arith, j.1))
+  sheet-fits input h (Ok s) j = reading-fits s.order (drop s.at input) (ranged s.order j.0) (omega (arith, length-drop s.at input)) _ refl
+  sheet-fits input h (Err e) j = refusal-fits lim e short (omega (arith, j.1))
 
   pub printed-fits : (input : List ℕ) → length (printed lim input) ≤ report_size lim
   unfolding printed_as course_as said_as

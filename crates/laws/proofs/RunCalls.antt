@@ -8,14 +8,15 @@ use mathlib.Core.List.{List, [], ◌∷◌, ◌++◌, map, append_assoc}
 use native.Mathlib.Omega.{arith}
 use lib.ListN.{length, get_or, take, drop}
 use borrow.Author.Tests.{eqb-false}
+use Rattle.std.specs.Prelude.{Result}
 use Rattle.scan.specs.declared.Token.TheVariants.{Line}
 use Rattle.scan.specs.Scan.{cursor_at}
 use Rattle.scan.specs.Text.{bytes}
+use Rattle.written.specs.declared.Refusal.{Refusal}
 use Rattle.written.specs.declared.Form.TheVariants.{Own}
 use Rattle.written.specs.declared.Order.{Order}
 use Rattle.written.specs.declared.Sheet.{Sheet}
 use Rattle.written.specs.declared.Fault.{Fault}
-use Rattle.written.specs.declared.Ordered.{Ordered}
 use Rattle.written.specs.declared.RunAnswer.{RunAnswer}
 use Rattle.written.specs.declared.Walked.{Walked}
 use Rattle.written.specs.Lists.{list_of, has}
@@ -167,10 +168,10 @@ module _ (lim : Limits) (input : List ℕ) where
       (λ s e b q. cleared-again lim t) (λ s f b q. holding-again lim _ _ t (ends-valid s f b q) (ends-valid s f b q))
 
   -- once the sheet is accepted, only what lies past the full sizes shows
-  leaves_by : (t u : Tables) → each drop (full_sizes lim) t ≡ each drop (full_sizes lim) u → ((a : Ordered) → course ≡ unbegun a → ⊥) → leaves t ≡ leaves u
+  leaves_by : (t u : Tables) → each drop (full_sizes lim) t ≡ each drop (full_sizes lim) u → ((a : Result Sheet Fault) → course ≡ unbegun a → ⊥) → leaves t ≡ leaves u
   unfolding tables_after
   leaves_by t u same =
-      by-course lim input (λ c. ((a : Ordered) → c ≡ unbegun a → ⊥) → tables_after lim t c ≡ tables_after lim u c) (λ l n. cleared_by lim t u same)
+      by-course lim input (λ c. ((a : Result Sheet Fault) → c ≡ unbegun a → ⊥) → tables_after lim t c ≡ tables_after lim u c) (λ l n. cleared_by lim t u same)
       (λ e h q n. absurd (n _ refl)) (λ s e b q n. cleared_by lim t u same) (λ s f b q n. holding-by lim _ t u (ends-valid s f b q) same)
 
   -- the marks by the course
@@ -196,11 +197,11 @@ module _ (lim : Limits) (input : List ℕ) where
       by-course lim input (λ c. marks_after lim (marks_after lim ms c) c ≡ marks_after lim ms c) (λ l. again) (λ e h q. refl) (λ s e b q. again) (λ s f b q. again)
 
   -- once the sheet is accepted, only what lies past the full size shows
-  marks-by : (ms ns : List ℕ) → drop lim.terms ms ≡ drop lim.terms ns → ((a : Ordered) → course ≡ unbegun a → ⊥) → marks ms ≡ marks ns
+  marks-by : (ms ns : List ℕ) → drop lim.terms ms ≡ drop lim.terms ns → ((a : Result Sheet Fault) → course ≡ unbegun a → ⊥) → marks ms ≡ marks ns
   unfolding marks_after
   marks-by ms ns same =
       let by = unmarked-by lim ms ns same in
-      by-course lim input (λ c. ((a : Ordered) → c ≡ unbegun a → ⊥) → marks_after lim ms c ≡ marks_after lim ns c) (λ l n. by) (λ e h q n. absurd (n _ refl))
+      by-course lim input (λ c. ((a : Result Sheet Fault) → c ≡ unbegun a → ⊥) → marks_after lim ms c ≡ marks_after lim ns c) (λ l n. by) (λ e h q n. absurd (n _ refl))
       (λ s e b q n. by) (λ s f b q n. by)
 
   ran-twice : (t : Tables) (ms b : List ℕ) → ran lim (ran lim t ms b course).tables (ran lim t ms b course).marks (ran lim t ms b course).buffer course
@@ -249,11 +250,11 @@ module _ (lim : Limits) (few : lim.terms < 10 ^ 9) (short : lim.text + 1 < 10 ^ 
     same_print = (run-told t ms b ft rb).first ∙ sym (run-told u ns c fu rc).first
 
     -- nor, once the sheet is accepted, to what is left up to the full sizes
-    pub same_tables : each drop (full_sizes lim) t ≡ each drop (full_sizes lim) u → ((a : Ordered) → course_of lim input ≡ unbegun a → ⊥)
+    pub same_tables : each drop (full_sizes lim) t ≡ each drop (full_sizes lim) u → ((a : Result Sheet Fault) → course_of lim input ≡ unbegun a → ⊥)
         → (run_of lim input t ms b).tables ≡ (run_of lim input u ns c).tables
     same_tables same begun = (run-told t ms b ft rb).tables ∙ leaves_by lim input t u same begun ∙ sym (run-told u ns c fu rc).tables
 
-    pub same-marks : drop lim.terms ms ≡ drop lim.terms ns → ((a : Ordered) → course_of lim input ≡ unbegun a → ⊥)
+    pub same-marks : drop lim.terms ms ≡ drop lim.terms ns → ((a : Result Sheet Fault) → course_of lim input ≡ unbegun a → ⊥)
         → (run_of lim input t ms b).marks ≡ (run_of lim input u ns c).marks
     same-marks same begun = (run-told t ms b ft rb).marks ∙ marks-by lim input ms ns same begun ∙ sym (run-told u ns c fu rc).marks
 
@@ -363,7 +364,7 @@ module _ (lim : Limits) (input : List ℕ) (e : Outcome) (w : Walks lim input e)
     unfolding walk_leaves
     run_calls =
         left ∙ ap (λ (r : Outcome). holding lim r.last.state t) w.made
-        ∙ sym (ap (λ (l : Leaves Walked). l.tables) (walk-read lim (text_after w.sheet input) file order t ms w.read full w.range))
+        ∙ sym (ap (λ (l : Leaves (Result Walked Refusal)). l.tables) (walk-read lim (text_after w.sheet input) file order t ms w.read full w.range))
 
   -- found
 

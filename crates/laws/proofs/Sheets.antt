@@ -9,10 +9,10 @@ use lib.ListN.{length, take, drop, take-append-drop}
 use lib.Seq.{drop-drop}
 use lib.Dec.{leb}
 use borrow.Author.Tests.{leb-true}
+use Rattle.std.specs.Prelude.{Result, Ok, Err}
 use Rattle.scan.specs.Text.{bytes}
+use Rattle.written.specs.declared.Sheet.{Sheet}
 use Rattle.written.specs.declared.Order.{Order}
-use Rattle.written.specs.declared.Ordered.{Ordered}
-use Rattle.written.specs.declared.Ordered.TheVariants.{Accepted, Refused}
 use Rattle.written.specs.declared.Reason.{Reason}
 use Rattle.written.specs.declared.Fault.{Fault}
 use Rattle.written.specs.Orders.{Range, seeds, flips_each, walks_all, biases, modes, within, in_range}
@@ -63,7 +63,7 @@ ranged o h =
 -- ---- the first faulty line is named
 
 -- the line k judged, where those before it are good
-line-says : (k : ℕ) (input : List ℕ) (on : ℕ → List ℕ → Ordered) → k < 4 → GoodTo k input
+line-says : (k : ℕ) (input : List ℕ) (on : ℕ → List ℕ → Result Sheet Fault) → k < 4 → GoodTo k input
     → (GoodTo (suc k) input → Says input (on (number_in k input) (drop (suc (line_length (after_lines k input))) (after_lines k input))))
     → Says input (judged (suc k) (key_of k) (range_of k) (after_lines k input) on)
 unfolding judged
@@ -78,7 +78,7 @@ pub begins_then : (key rest : List ℕ) → begins key rest ≡ true → rest �
 begins_then key rest h = sym (take-append-drop (length key) rest) ∙ ap (λ (xs : List ℕ). xs ++ drop (length key) rest) (same-eq (take (length key) rest) key h)
 
 -- the fifth, where the four are good
-fifth-says : (input : List ℕ) (on : ℕ → List ℕ → Ordered) → GoodTo 4 input
+fifth-says : (input : List ℕ) (on : ℕ → List ℕ → Result Sheet Fault) → GoodTo 4 input
     → ((mode : ℕ) (text : List ℕ) → Fifth (after_lines 4 input) mode text → within modes mode ≡ true → Says input (on mode text))
     → Says input (optional 5 (bytes "choice=") (bytes "choice=even\n") (after_lines 4 input) on)
 unfolding optional
@@ -111,18 +111,18 @@ sheet-says input =
     }
 
 -- what is known of a sheet at the top of an input of n bytes
-abbrev pub Judged : ℕ → Ordered → Type 0
-Judged n (Accepted s) = (in_range s.order ≡ true) × (s.at ≤ n)
-Judged n (Refused e) = (1 ≤ e.line) × (e.line ≤ last_line)
+abbrev pub Judged : ℕ → Result Sheet Fault → Type 0
+Judged n (Ok s) = (in_range s.order ≡ true) × (s.at ≤ n)
+Judged n (Err e) = (1 ≤ e.line) × (e.line ≤ last_line)
 
 faulty-few : (input : List ℕ) (k : ℕ) (r : Reason) → Faulty input k r → k < last_line
 faulty-few input _ _ (wrong_form k few h) = omega arith
 faulty-few input _ _ (out_of_range k few h l) = omega arith
 faulty-few input _ _ (not_the_choice h l) = omega arith
 
-says-judged : (input : List ℕ) (a : Ordered) → Says input a → Judged (length input) a
-says-judged input (Accepted s) h = (h.in_range_lem, omega (arith, h.text-begins))
-says-judged input (Refused e) h = (omega (arith, h.named), omega (arith, h.named, faulty-few input h.line e.reason h.faulty))
+says-judged : (input : List ℕ) (a : Result Sheet Fault) → Says input a → Judged (length input) a
+says-judged input (Ok s) h = (h.in_range_lem, omega (arith, h.text-begins))
+says-judged input (Err e) h = (omega (arith, h.named), omega (arith, h.named, faulty-few input h.line e.reason h.faulty))
 
 pub sheet-judged : (input : List ℕ) → Judged (length input) (sheet_of input)
 sheet-judged input = says-judged input (sheet_of input) (sheet-says input)
@@ -140,15 +140,15 @@ after-back : (k : ℕ) (input : List ℕ) → drop (length input - length (after
 after-back k input = let p = after-place k input in rw p.1 (drop-back p.0 input)
 
 -- what is done to a sheet, and to no refusal, can be done where its lines are judged
-module _ (F : Ordered → Ordered) (keeps : (e : Fault) → F (Refused e) ≡ Refused e) where
-  line_then : (i : ℕ) (key : List ℕ) (r : Range) (rest : List ℕ) (on on' : ℕ → List ℕ → Ordered)
+module _ (F : Result Sheet Fault → Result Sheet Fault) (keeps : (e : Fault) → F (Err e) ≡ Err e) where
+  line_then : (i : ℕ) (key : List ℕ) (r : Range) (rest : List ℕ) (on on' : ℕ → List ℕ → Result Sheet Fault)
       → F (on (number_after key rest) (drop (suc (line_length rest)) rest)) ≡ on' (number_after key rest) (drop (suc (line_length rest)) rest)
       → F (judged i key r rest on) ≡ judged i key r rest on'
   unfolding judged
   line_then i key r rest on on' e =
       by_cases (has_form key rest) (λ f. by_cases (within r (number_after key rest)) (λ w. rw (f, w) e) (λ w. rw (f, w) (keeps _))) (λ f. rw f (keeps _))
 
-  four_then_lem : (input : List ℕ) (on on' : ℕ → ℕ → ℕ → ℕ → List ℕ → Ordered)
+  four_then_lem : (input : List ℕ) (on on' : ℕ → ℕ → ℕ → ℕ → List ℕ → Result Sheet Fault)
       → F (on (number_in 0 input) (number_in 1 input) (number_in 2 input) (number_in 3 input) (after_lines 4 input))
       ≡ on' (number_in 0 input) (number_in 1 input) (number_in 2 input) (number_in 3 input) (after_lines 4 input)
       → F (four_then input on) ≡ four_then input on'
@@ -168,5 +168,5 @@ unfolding four_lines sheet_of optional
 without-line input h = four_then_lem (λ a. a) (λ e. refl) input _ _ (rw h refl)
 
 -- and what is refused by its four lines is refused so whatever the fifth is
-pub four_refused : (input : List ℕ) (e : Fault) → four_lines input ≡ Refused e → sheet_of input ≡ Refused e
+pub four_refused : (input : List ℕ) (e : Fault) → four_lines input ≡ Err e → sheet_of input ≡ Err e
 four_refused input e q = sym (four_first input) ∙ ap (after_four input) q

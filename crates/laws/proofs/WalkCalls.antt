@@ -8,6 +8,7 @@ use mathlib.Core.List.{List, []}
 use native.Mathlib.Omega.{arith}
 use lib.ListN.{length, get_or, take, drop}
 use borrow.Author.Tests.{eqb-false}
+use Rattle.std.specs.Prelude.{Result, Ok, Err}
 use Rattle.written.specs.declared.Counts.{Counts}
 use Rattle.written.specs.declared.Order.{Order}
 use Rattle.written.specs.declared.Reason.{Reason}
@@ -16,8 +17,6 @@ use Rattle.written.specs.declared.Refusal.{Refusal}
 use Rattle.written.specs.declared.Tour.{Tour}
 use Rattle.written.specs.declared.Walked.{Walked}
 use Rattle.written.specs.declared.Walked.TheVariants as W
-use Rattle.written.specs.declared.Flipped.{Flipped}
-use Rattle.written.specs.declared.Flipped.TheVariants as F
 use Rattle.written.specs.Limits.{Limits}
 use Rattle.written.specs.Reasons.{number_of}
 use Rattle.written.specs.Clauses.{File, State, true_count, afresh, as_read}
@@ -54,18 +53,18 @@ use Rattle.laws.proofs.FlipCalls.{accepted-exactly, flips-accepted, flips-refuse
 
 -- ---- what a call answers
 
-abbrev result_in : Walked → ℕ
+abbrev result_in : Result Walked Refusal → ℕ
 result_in a = (walk_values a).result
 
-abbrev tour_in : Walked → Tour
-tour_in (W.Found e) = e
-tour_in (W.GaveUp e) = e
-tour_in (W.Refused e) = record { walks = 0; flips = 0; counts = e.counts }
+abbrev tour_in : Result Walked Refusal → Tour
+tour_in (Ok (W.Found e)) = e
+tour_in (Ok (W.GaveUp e)) = e
+tour_in (Err e) = record { walks = 0; flips = 0; counts = e.counts }
 
-abbrev refusal_in : Walked → Refusal
-refusal_in (W.Found e) = record { reason = TableTooShort; counts = e.counts }
-refusal_in (W.GaveUp e) = record { reason = TableTooShort; counts = e.counts }
-refusal_in (W.Refused e) = e
+abbrev refusal_in : Result Walked Refusal → Refusal
+refusal_in (Ok (W.Found e)) = record { reason = TableTooShort; counts = e.counts }
+refusal_in (Ok (W.GaveUp e)) = record { reason = TableTooShort; counts = e.counts }
+refusal_in (Err e) = e
 
 module _ (lim : Limits) (o : Order) (n : Counts) (t : Tables) (ms : List ℕ) where
   -- all tests are passed, or one fails
@@ -89,36 +88,36 @@ module _ (lim : Limits) (o : Order) (n : Counts) (t : Tables) (ms : List ℕ) wh
 
   -- a refused call leaves the next one what it was given
   unmoved : (p : Order) (r : Reason) → Fails lim o n t ms r → walk_of lim p (walk_values (walk_of lim o n t ms).answer).counts (walk_of lim o n t ms).tables ms ≡ walk_of lim p n t ms
-  unmoved p r f = ap (λ (l : Leaves Walked). walk_of lim p (walk_values l.answer).counts l.tables ms) (failed r f)
+  unmoved p r f = ap (λ (l : Leaves (Result Walked Refusal)). walk_of lim p (walk_values l.answer).counts l.tables ms) (failed r f)
 
   -- one of three
-  refused-answer : (r : Reason) → Fails lim o n t ms r → (walk_of lim o n t ms).answer ≡ W.Refused (record { reason = r; counts = n })
-  refused-answer r f = ap (λ (l : Leaves Walked). l.answer) (failed r f)
+  refused-answer : (r : Reason) → Fails lim o n t ms r → (walk_of lim o n t ms).answer ≡ Err (record { reason = r; counts = n })
+  refused-answer r f = ap (λ (l : Leaves (Result Walked Refusal)). l.answer) (failed r f)
 
-  found-answer : Allowed lim o n t ms → (written o n t ms).found ≡ true → (walk_of lim o n t ms).answer ≡ W.Found (tour (written o n t ms))
+  found-answer : Allowed lim o n t ms → (written o n t ms).found ≡ true → (walk_of lim o n t ms).answer ≡ Ok (W.Found (tour (written o n t ms)))
   unfolding walk_leaves
-  found-answer h q = ap (λ (l : Leaves Walked). l.answer) (passed h) ∙ rw q refl
+  found-answer h q = ap (λ (l : Leaves (Result Walked Refusal)). l.answer) (passed h) ∙ rw q refl
 
-  up-answer : Allowed lim o n t ms → (written o n t ms).found ≡ false → (walk_of lim o n t ms).answer ≡ W.GaveUp (tour (written o n t ms))
+  up-answer : Allowed lim o n t ms → (written o n t ms).found ≡ false → (walk_of lim o n t ms).answer ≡ Ok (W.GaveUp (tour (written o n t ms)))
   unfolding walk_leaves
-  up-answer h q = ap (λ (l : Leaves Walked). l.answer) (passed h) ∙ rw q refl
+  up-answer h q = ap (λ (l : Leaves (Result Walked Refusal)). l.answer) (passed h) ∙ rw q refl
 
   by-outcome : {A : Type 0} → (Allowed lim o n t ms → (written o n t ms).found ≡ true → A) → (Allowed lim o n t ms → (written o n t ms).found ≡ false → A)
       → ((r : Reason) → Fails lim o n t ms r → A) → A
   by-outcome finds ups fails = tests (λ h. by_cases (written o n t ms).found (finds h) (ups h)) fails
 
   -- an answer tells which
-  was-found : (e : Tour) → (walk_of lim o n t ms).answer ≡ W.Found e → Allowed lim o n t ms × ((written o n t ms).found ≡ true)
+  was-found : (e : Tour) → (walk_of lim o n t ms).answer ≡ Ok (W.Found e) → Allowed lim o n t ms × ((written o n t ms).found ≡ true)
   was-found e a =
       by-outcome (λ h q. (h, q)) (λ h q. absurd (omega (arith, ap result_in (sym (up-answer h q) ∙ a))))
       (λ r f. absurd (omega (arith, ap result_in (sym (refused-answer r f) ∙ a))))
 
-  was-up : (e : Tour) → (walk_of lim o n t ms).answer ≡ W.GaveUp e → Allowed lim o n t ms × ((written o n t ms).found ≡ false)
+  was-up : (e : Tour) → (walk_of lim o n t ms).answer ≡ Ok (W.GaveUp e) → Allowed lim o n t ms × ((written o n t ms).found ≡ false)
   was-up e a =
       by-outcome (λ h q. absurd (omega (arith, ap result_in (sym (found-answer h q) ∙ a)))) (λ h q. (h, q))
       (λ r f. absurd (omega (arith, ap result_in (sym (refused-answer r f) ∙ a))))
 
-  was-refused : (e : Refusal) → (walk_of lim o n t ms).answer ≡ W.Refused e → Fails lim o n t ms e.reason × (e.counts ≡ n)
+  was-refused : (e : Refusal) → (walk_of lim o n t ms).answer ≡ Err e → Fails lim o n t ms e.reason × (e.counts ≡ n)
   was-refused e a =
       by-outcome (λ h q. absurd (omega (arith, ap result_in (sym (found-answer h q) ∙ a))))
       (λ h q. absurd (omega (arith, ap result_in (sym (up-answer h q) ∙ a))))
@@ -129,20 +128,20 @@ module _ (lim : Limits) (o : Order) (n : Counts) (t : Tables) (ms : List ℕ) wh
   -- no mark is moved, whatever is answered
   pub walk-marks : (walk_of lim o n t ms).marks ≡ ms
   unfolding walk_leaves
-  walk-marks = tests (λ h. ap (λ (l : Leaves Walked). l.marks) (passed h)) (λ r f. ap (λ (l : Leaves Walked). l.marks) (failed r f))
+  walk-marks = tests (λ h. ap (λ (l : Leaves (Result Walked Refusal)). l.marks) (passed h)) (λ r f. ap (λ (l : Leaves (Result Walked Refusal)). l.marks) (failed r f))
 
   -- found exactly where the written walk finds, given up exactly where it gives up
-  pub found-exactly : ((walk_of lim o n t ms).answer ≡ W.Found (tour (written o n t ms))) ↔ (Allowed lim o n t ms × ((written o n t ms).found ≡ true))
+  pub found-exactly : ((walk_of lim o n t ms).answer ≡ Ok (W.Found (tour (written o n t ms)))) ↔ (Allowed lim o n t ms × ((written o n t ms).found ≡ true))
   found-exactly = (was-found (tour (written o n t ms)), λ h. found-answer h.0 h.1)
 
-  pub gave_up-exactly : ((walk_of lim o n t ms).answer ≡ W.GaveUp (tour (written o n t ms))) ↔ (Allowed lim o n t ms × ((written o n t ms).found ≡ false))
+  pub gave_up-exactly : ((walk_of lim o n t ms).answer ≡ Ok (W.GaveUp (tour (written o n t ms)))) ↔ (Allowed lim o n t ms × ((written o n t ms).found ≡ false))
   gave_up-exactly = (was-up (tour (written o n t ms)), λ h. up-answer h.0 h.1)
 
   -- refused exactly where a test fails
-  pub refused-exactly : (e : Refusal) → ((walk_of lim o n t ms).answer ≡ W.Refused e) ↔ (Fails lim o n t ms e.reason × (e.counts ≡ n))
+  pub refused-exactly : (e : Refusal) → ((walk_of lim o n t ms).answer ≡ Err e) ↔ (Fails lim o n t ms e.reason × (e.counts ≡ n))
   refused-exactly e = (
     was-refused e,
-    λ h. refused-answer e.reason h.0 ∙ ap (λ (m : Counts). W.Refused (record { reason = e.reason; counts = m })) (sym h.1),
+    λ h. refused-answer e.reason h.0 ∙ ap (λ (m : Counts). Err (record { reason = e.reason; counts = m })) (sym h.1),
   )
 
 -- ---- what the written walk ends with, in tables that are allowed
@@ -157,7 +156,7 @@ module _ (lim : Limits) (o : Order) (n : Counts) (t : Tables) (ms : List ℕ) (h
 
   left : after ≡ holding lim final t
   unfolding walk_leaves
-  left = ap (λ (l : Leaves Walked). l.tables) (passed lim o n t ms h)
+  left = ap (λ (l : Leaves (Result Walked Refusal)). l.tables) (passed lim o n t ms h)
 
   pub tables-full : are_full lim t ≡ true
   tables-full = full-tables lim t ms h.full
@@ -207,8 +206,8 @@ module _ (lim : Limits) (o : Order) (n : Counts) (t : Tables) (ms : List ℕ) (h
 
   counts-left : (walk_values (walk_of lim o n t ms).answer).counts ≡ counts_of final
   counts-left =
-      by_cases (written o n t ms).found (λ q. ap (λ (a : Walked). (walk_values a).counts) (found-answer lim o n t ms h q))
-      (λ q. ap (λ (a : Walked). (walk_values a).counts) (up-answer lim o n t ms h q))
+      by_cases (written o n t ms).found (λ q. ap (λ (a : Result Walked Refusal). (walk_values a).counts) (found-answer lim o n t ms h q))
+      (λ q. ap (λ (a : Result Walked Refusal). (walk_values a).counts) (up-answer lim o n t ms h q))
 
   values-left : values_left (tour (written o n t ms)) after ≡ final.values
   values-left = ap (λ (s : State). s.values) stands.state
@@ -282,23 +281,23 @@ module _ (lim : Limits) (o : Order) (n : Counts) (t : Tables) (ms : List ℕ) (h
 
 module _ (lim : Limits) (o : Order) (n : Counts) (t : Tables) (ms : List ℕ) where
   -- demand 2
-  pub walk-found : (e : Tour) → (walk_of lim o n t ms).answer ≡ W.Found e → Found lim o n t ms e (walk_of lim o n t ms).tables
+  pub walk-found : (e : Tour) → (walk_of lim o n t ms).answer ≡ Ok (W.Found e) → Found lim o n t ms e (walk_of lim o n t ms).tables
   walk-found e a =
       let w = was-found lim o n t ms e a in
       subst (λ x. Found lim o n t ms x (walk_of lim o n t ms).tables) (ap tour_in (sym (found-answer lim o n t ms w.0 w.1) ∙ a)) (found lim o n t ms w.0 w.1)
 
-  pub walk_gave_up : (e : Tour) → (walk_of lim o n t ms).answer ≡ W.GaveUp e → GaveUp lim o n t ms e (walk_of lim o n t ms).tables
+  pub walk_gave_up : (e : Tour) → (walk_of lim o n t ms).answer ≡ Ok (W.GaveUp e) → GaveUp lim o n t ms e (walk_of lim o n t ms).tables
   walk_gave_up e a =
       let w = was-up lim o n t ms e a in
       subst (λ x. GaveUp lim o n t ms x (walk_of lim o n t ms).tables) (ap tour_in (sym (up-answer lim o n t ms w.0 w.1) ∙ a)) (given-up lim o n t ms w.0 w.1)
 
   -- "each refusal fixes what stands in each lent table afterwards"
-  pub walk_refused_lem : (e : Refusal) → (walk_of lim o n t ms).answer ≡ W.Refused e → Refused lim o n t ms e (walk_of lim o n t ms).tables
+  pub walk_refused_lem : (e : Refusal) → (walk_of lim o n t ms).answer ≡ Err e → Refused lim o n t ms e (walk_of lim o n t ms).tables
   walk_refused_lem e a =
       let w = was-refused lim o n t ms e a in
       record {
         fails = w.0;
-        left = ap (λ (l : Leaves Walked). l.tables) (failed lim o n t ms e.reason w.0);
+        left = ap (λ (l : Leaves (Result Walked Refusal)). l.tables) (failed lim o n t ms e.reason w.0);
         values = ap (λ (m : Counts). record { result = 0; reason = number_of e.reason; line = 0; walks = 0; flips = 0; counts = m }) w.1;
       }
 
@@ -318,11 +317,11 @@ module _ (lim : Limits) (o : Order) (n : Counts) (t : Tables) (ms : List ℕ) wh
 
   allowed-reason : Allowed lim o n t ms → reason_given lim o n t ms ≡ 0
   allowed-reason h =
-      by_cases (written o n t ms).found (λ q. ap (λ (a : Walked). (walk_values a).reason) (found-answer lim o n t ms h q))
-      (λ q. ap (λ (a : Walked). (walk_values a).reason) (up-answer lim o n t ms h q))
+      by_cases (written o n t ms).found (λ q. ap (λ (a : Result Walked Refusal). (walk_values a).reason) (found-answer lim o n t ms h q))
+      (λ q. ap (λ (a : Result Walked Refusal). (walk_values a).reason) (up-answer lim o n t ms h q))
 
   failed-reason : (r : Reason) → Fails lim o n t ms r → reason_given lim o n t ms ≡ number_of r
-  failed-reason r f = ap (λ (a : Walked). (walk_values a).reason) (refused-answer lim o n t ms r f)
+  failed-reason r f = ap (λ (a : Result Walked Refusal). (walk_values a).reason) (refused-answer lim o n t ms r f)
 
   by-reason : {A : Type 0} → (reason_given lim o n t ms ≡ 0 → Allowed lim o n t ms → A) → (reason_given lim o n t ms ≡ 1 → full_marked lim t ms ≡ false → A)
       → (reason_given lim o n t ms ≡ 11 → full_marked lim t ms ≡ true → in_range o ≡ false → A)
@@ -378,8 +377,8 @@ module _ (lim : Limits) (o : Order) where
     pub same_answer : (walk_of lim o n t ms).answer ≡ (walk_of lim o m u ms).answer
     unfolding walk_leaves
     same_answer =
-        ap (λ (l : Leaves Walked). l.answer) (passed lim o n t ms h) ∙ ap (λ (f : File). (walk_leaves lim t ms (walk_over o ms f)).answer) same
-        ∙ ap (λ (l : Leaves Walked). l.answer) (sym (passed lim o m u ms k))
+        ap (λ (l : Leaves (Result Walked Refusal)). l.answer) (passed lim o n t ms h) ∙ ap (λ (f : File). (walk_leaves lim t ms (walk_over o ms f)).answer) same
+        ∙ ap (λ (l : Leaves (Result Walked Refusal)). l.answer) (sym (passed lim o m u ms k))
 
     pub same_left : each take (full_sizes lim) (walk_of lim o n t ms).tables ≡ each take (full_sizes lim) (walk_of lim o m u ms).tables
     same_left =
@@ -415,15 +414,15 @@ module _ (lim : Limits) (o : Order) (n : Counts) (t : Tables) (ms : List ℕ) (r
   unfolding state_in
   walk-flipped ts = after (flips-either lim ts n t ms)
     where
-      after : ((m : Counts) × ((flips_of lim ts n t ms).answer ≡ F.Applied m)) ⊎ ((e : Refusal) × ((flips_of lim ts n t ms).answer ≡ F.Refused e))
+      after : ((m : Counts) × ((flips_of lim ts n t ms).answer ≡ Ok m)) ⊎ ((e : Refusal) × ((flips_of lim ts n t ms).answer ≡ Err e))
           → walk_of lim o (flip_values (flips_of lim ts n t ms).answer).counts (flips_of lim ts n t ms).tables ms ≡ walk_of lim o n t ms
       after (inl (m, a)) =
           let h = (accepted-exactly lim ts n t ms).0 (m, a) in
-          ap (λ (x : Flipped). walk_of lim o (flip_values x).counts (flips_of lim ts n t ms).tables ms) a
+          ap (λ (x : Result Counts Refusal). walk_of lim o (flip_values x).counts (flips_of lim ts n t ms).tables ms) a
           ∙ walk_after _ m _ h.agrees h.full (flips-accepted lim ts n m t ms a).stands (flipped-file ts (state_in n t))
       after (inr (e, a)) =
           let u = flips-refused lim ts n t ms e a in
-          ap₂ (λ (x : Flipped) (w : Tables). walk_of lim o (flip_values x).counts w ms) a u.left ∙ ap (λ (m : Counts). walk_of lim o m t ms) u.counts
+          ap₂ (λ (x : Result Counts Refusal) (w : Tables). walk_of lim o (flip_values x).counts w ms) a u.left ∙ ap (λ (m : Counts). walk_of lim o m t ms) u.counts
 
 -- walked again by the same order, the same: what stood before makes no difference
 pub walk-twice : (lim : Limits) (o : Order) (n : Counts) (t : Tables) (ms : List ℕ)
@@ -447,10 +446,10 @@ filled-walks lim f o t ms n u us filled range =
       file = file;
       made = made;
       finds = λ q.
-          let a = subst (λ e. (walk_of lim o n u us).answer ≡ W.Found (tour e)) made (found-answer lim o n u us allowed (ap (λ (e : Outcome). e.found) made ∙ q)) in
+          let a = subst (λ e. (walk_of lim o n u us).answer ≡ Ok (W.Found (tour e))) made (found-answer lim o n u us allowed (ap (λ (e : Outcome). e.found) made ∙ q)) in
           (a, walk-found lim o n u us _ a);
       gives_up = λ q.
-          let a = subst (λ e. (walk_of lim o n u us).answer ≡ W.GaveUp (tour e)) made (up-answer lim o n u us allowed (ap (λ (e : Outcome). e.found) made ∙ q)) in
+          let a = subst (λ e. (walk_of lim o n u us).answer ≡ Ok (W.GaveUp (tour e))) made (up-answer lim o n u us allowed (ap (λ (e : Outcome). e.found) made ∙ q)) in
           (a, walk_gave_up lim o n u us _ a);
       found-only = λ e a. ap (λ (x : Outcome). x.found) (sym made) ∙ (was-found lim o n u us e a).1;
       up-only = λ e a. ap (λ (x : Outcome). x.found) (sym made) ∙ (was-up lim o n u us e a).1;

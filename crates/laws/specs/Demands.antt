@@ -1,8 +1,7 @@
 -- Demand 3, in the service's own words, of states and of calls: "Take one accepted clause file, any starting values and any list of up to
 -- 65,536 flips of known terms.", which document 02 makes "known and free terms". Assumes nothing.
-use Rattle.std.specs.Prelude.{ℕ, ◌-◌, ◌%◌, ◌≤◌, ◌<◌, ◌≡◌, true, false, List, map, length, get_or, take, drop, ltb}
+use Rattle.std.specs.Prelude.{ℕ, ◌-◌, ◌%◌, ◌≤◌, ◌<◌, ◌≡◌, true, false, List, map, length, get_or, take, drop, ltb, Ok}
 use Rattle.written.specs.declared.Counts.{Counts}
-use Rattle.written.specs.declared.Flipped.TheVariants as F
 use Rattle.written.specs.Lists.{all, list_of, has, times}
 use Rattle.written.specs.Limits.{Limits}
 use Rattle.written.specs.Clauses.{State, true_count, break_count, uncovered_in, afresh}
@@ -78,4 +77,4 @@ pub record Accepted (lim : Limits) (ts : List ℕ) (n m : Counts) (t : Tables) (
   pub counts : SameFile n m
   -- "two lists that name each term equally often, in any order, leave the same": the other is accepted too, with the same counts
   pub any_order : (us : List ℕ) → ((v : ℕ) → times v ts ≡ times v us)
-      → ((flips_of lim us n t ms).answer ≡ F.Applied m) × SameButList m.uncovered (flips_of lim ts n t ms).tables (flips_of lim us n t ms).tables
+      → ((flips_of lim us n t ms).answer ≡ Ok m) × SameButList m.uncovered (flips_of lim ts n t ms).tables (flips_of lim us n t ms).tables

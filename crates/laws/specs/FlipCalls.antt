@@ -1,12 +1,11 @@
 -- A flip list as a call, in the document's words: `flips_of lim ts n t ms` is what the list ts answers and leaves, with counts n, lent tables t
 -- and marks ms.
 -- What is asked of a call, and what an accepted one leaves, stands in Demands. Assumes nothing.
-use Rattle.std.specs.Prelude.{ℕ, ◌≤◌, ◌<◌, ◌↔◌, ◌⊎◌, ◌≡◌, true, false, List, length, ltb}
+use Rattle.std.specs.Prelude.{ℕ, ◌≤◌, ◌<◌, ◌↔◌, ◌⊎◌, ◌≡◌, true, false, List, length, ltb, Err}
 use Rattle.written.specs.declared.Counts.{Counts}
 use Rattle.written.specs.declared.Reason.{Reason}
 use Rattle.written.specs.declared.Reason.TheVariants.{TableTooShort, ListTooLong, TablesDisagree, UnknownTerm, PinnedTerm}
 use Rattle.written.specs.declared.Refusal.{Refusal}
-use Rattle.written.specs.declared.Flipped.TheVariants as F
 use Rattle.written.specs.Lists.{all}
 use Rattle.written.specs.Limits.{Limits}
 use Rattle.written.specs.Reasons.{number_of}
@@ -58,4 +57,4 @@ pub record Refused (lim : Limits) (ts : List ℕ) (n : Counts) (t : Tables) (ms 
   pub left : u ≡ t
   -- "A refused walk or flip list returns the counts it was given"; its line is 0
   pub counts : e.counts ≡ n
-  pub values : flip_values (F.Refused e) ≡ record { result = 0; reason = number_of e.reason; line = 0; walks = 0; flips = 0; counts = n }
+  pub values : flip_values (Err e) ≡ record { result = 0; reason = number_of e.reason; line = 0; walks = 0; flips = 0; counts = n }

@@ -1,11 +1,10 @@
 -- A reading of numbered text as a call: `numbered_of lim text t ms` is what it answers and leaves, of numbered text, lent tables t and marks ms.
 -- Assumes nothing.
-use Rattle.std.specs.Prelude.{ℕ, ◌≤◌, ◌<◌, ◌↔◌, ◌⊎◌, ◌≡◌, true, false, List, length}
+use Rattle.std.specs.Prelude.{ℕ, ◌≤◌, ◌<◌, ◌↔◌, ◌⊎◌, ◌≡◌, true, false, List, length, Err}
 use Rattle.scan.specs.Scan.{open_end}
 use Rattle.written.specs.declared.Counts.{Counts}
 use Rattle.written.specs.declared.Reason.TheVariants.{TableTooShort, TextTooLong}
 use Rattle.written.specs.declared.Fault.{Fault}
-use Rattle.written.specs.declared.Read.TheVariants as R
 use Rattle.written.specs.Limits.{Limits}
 use Rattle.written.specs.Clauses.{File}
 use Rattle.written.specs.Reading.{accepted}
@@ -30,10 +29,10 @@ pub record Given (lim : Limits) (text : List ℕ) (t : Tables) (ms : List ℕ) :
   pub reason-2 : (reason_numbered lim text t ms ≡ 2) ↔ ((full_marked lim t ms ≡ true) × (lim.text < length text))
   pub reason_3 : (reason_numbered lim text t ms ≡ 3) ↔ ((full_marked lim t ms ≡ true) × ((length text ≤ lim.text) × (open_end text ≡ true)))
   -- "in reading order with the line": 16 and 6 as `Heads` says it, 4, 18, 17, 15, 7, 8 and 9 as `Fails` does
-  pub in_order : (e : Fault) → past_tests e.reason ≡ true → ((numbered_of lim text t ms).answer ≡ R.Refused e)
+  pub in_order : (e : Fault) → past_tests e.reason ≡ true → ((numbered_of lim text t ms).answer ≡ Err e)
       ↔ ((full_marked lim t ms ≡ true) × (length text ≤ lim.text) × (open_end text ≡ false) × (Heads lim text e ⊎ Stopped lim text e))
   -- no other than 1, 2 and the text's own
-  pub no_other : (e : Fault) → (numbered_of lim text t ms).answer ≡ R.Refused e
+  pub no_other : (e : Fault) → (numbered_of lim text t ms).answer ≡ Err e
       → (e.reason ≡ TableTooShort) ⊎ ((e.reason ≡ TextTooLong) ⊎ (of_numbered e.reason ≡ true))
   -- none is given to a text that can be read
   pub no_reason : (reason_numbered lim text t ms ≡ 0) ↔ ((full_marked lim t ms ≡ true) × ((f : File) × (read_numbered lim text ≡ accepted f)))

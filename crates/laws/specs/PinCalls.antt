@@ -1,12 +1,10 @@
 -- A pin and a lift as calls, in the words of request 8: `pin_of lim k v n t ms` and `lift_of lim k n t ms` are what they answer and leave, of the term k, with
 -- counts n, lent tables t and marks ms. Assumes nothing.
-use Rattle.std.specs.Prelude.{ℕ, ◌+◌, ◌≤◌, ◌<◌, ◌↔◌, ◌⊎◌, ◌≡◌, true, false, List, length, get_or}
+use Rattle.std.specs.Prelude.{ℕ, ◌+◌, ◌≤◌, ◌<◌, ◌↔◌, ◌⊎◌, ◌≡◌, true, false, List, length, get_or, Result, Ok, Err}
 use Rattle.written.specs.declared.Counts.{Counts}
 use Rattle.written.specs.declared.Reason.{Reason}
 use Rattle.written.specs.declared.Reason.TheVariants.{TableTooShort, TablesDisagree, UnknownTerm}
 use Rattle.written.specs.declared.Refusal.{Refusal}
-use Rattle.written.specs.declared.Flipped.{Flipped}
-use Rattle.written.specs.declared.Flipped.TheVariants as F
 use Rattle.written.specs.Limits.{Limits}
 use Rattle.written.specs.Reasons.{number_of}
 use Rattle.written.specs.Clauses.{State}
@@ -33,11 +31,11 @@ pub data Fails (lim : Limits) (k : ℕ) (n : Counts) (t : Tables) (ms : List ℕ
   unknown : full_marked lim t ms ≡ true → agree_marked lim n t ms ≡ true → n.terms ≤ k → Fails lim k n t ms UnknownTerm
 
 -- the reason's number, and 0 where there is none, of what a call answers and leaves
-abbrev pub reason_in : Leaves Flipped → ℕ
+abbrev pub reason_in : Leaves (Result Counts Refusal) → ℕ
 reason_in l = (flip_values l.answer).reason
 
 -- "given exactly when"
-pub record Given (lim : Limits) (k : ℕ) (n : Counts) (t : Tables) (ms : List ℕ) (l : Leaves Flipped) : Type 0 where
+pub record Given (lim : Limits) (k : ℕ) (n : Counts) (t : Tables) (ms : List ℕ) (l : Leaves (Result Counts Refusal)) : Type 0 where
   pub reason_1 : (reason_in l ≡ 1) ↔ (full_marked lim t ms ≡ false)
   pub reason_12 : (reason_in l ≡ 12) ↔ ((full_marked lim t ms ≡ true) × (agree_marked lim n t ms ≡ false))
   pub reason_13 : (reason_in l ≡ 13) ↔ ((full_marked lim t ms ≡ true) × (agree_marked lim n t ms ≡ true) × (n.terms ≤ k))
@@ -46,12 +44,12 @@ pub record Given (lim : Limits) (k : ℕ) (n : Counts) (t : Tables) (ms : List �
   pub no_other : ((reason_in l ≡ 0) ⊎ (reason_in l ≡ 1)) ⊎ ((reason_in l ≡ 12) ⊎ (reason_in l ≡ 13))
 
 -- a refusal e: "all unchanged"
-pub record Refused (lim : Limits) (k : ℕ) (n : Counts) (t : Tables) (ms : List ℕ) (e : Refusal) (l : Leaves Flipped) : Type 0 where
+pub record Refused (lim : Limits) (k : ℕ) (n : Counts) (t : Tables) (ms : List ℕ) (e : Refusal) (l : Leaves (Result Counts Refusal)) : Type 0 where
   pub fails : Fails lim k n t ms e.reason
   pub left : l.tables ≡ t
   pub marks : l.marks ≡ ms
   -- the counts that were given; its line is 0
-  pub values : flip_values (F.Refused e) ≡ record { result = 0; reason = number_of e.reason; line = 0; walks = 0; flips = 0; counts = n }
+  pub values : flip_values (Err e) ≡ record { result = 0; reason = number_of e.reason; line = 0; walks = 0; flips = 0; counts = n }
 
 -- ---- what an accepted call does
 
@@ -66,7 +64,7 @@ abbrev pub state_pinned : ℕ → ℕ → Counts → Tables → State
 state_pinned k v n t = flipped (flips_for k (value_asked v) (state_in n t)) (state_in n t)
 
 -- "Pinning a term marks it and flips it if its value differs": the call answered with counts m and left l
-pub record Pinned (lim : Limits) (k v : ℕ) (n : Counts) (t : Tables) (ms : List ℕ) (m : Counts) (l : Leaves Flipped) : Type 0 where
+pub record Pinned (lim : Limits) (k v : ℕ) (n : Counts) (t : Tables) (ms : List ℕ) (m : Counts) (l : Leaves (Result Counts Refusal)) : Type 0 where
   pub known : Known lim k n t ms
   -- its value is the one asked for, and every other value stays
   pub value : get_or (state_pinned k v n t).values k 0 ≡ value_asked v
@@ -81,9 +79,9 @@ pub record Pinned (lim : Limits) (k v : ℕ) (n : Counts) (t : Tables) (ms : Lis
   pub standing : get_or (state_in n t).values k 0 ≡ value_asked v → (l.tables ≡ t) × (m ≡ n)
 
 -- "lifting a pin clears only the mark"
-pub record Lifted (lim : Limits) (k : ℕ) (n : Counts) (t : Tables) (ms : List ℕ) (l : Leaves Flipped) : Type 0 where
+pub record Lifted (lim : Limits) (k : ℕ) (n : Counts) (t : Tables) (ms : List ℕ) (l : Leaves (Result Counts Refusal)) : Type 0 where
   pub known : Known lim k n t ms
-  pub answer : l.answer ≡ F.Applied n
+  pub answer : l.answer ≡ Ok n
   pub left : l.tables ≡ t
   pub marked : MarkedAt k 0 ms l.marks
   -- a call that follows is given neither reason 1 nor reason 12

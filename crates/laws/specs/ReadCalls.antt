@@ -1,6 +1,6 @@
 -- A reading as a call, in the document's words: `reading_of lim text t ms` is what it answers and leaves, of clause text, lent tables t and marks ms.
 -- `read_into lim r t ms` is what such a call leaves of a text of either form that comes to r. Assumes nothing.
-use Rattle.std.specs.Prelude.{ℕ, ◌≤◌, ◌<◌, ◌↔◌, ◌⊎◌, ◌≡◌, Bool, true, false, not, List, [], length, get_or, take, drop, eqb}
+use Rattle.std.specs.Prelude.{ℕ, ◌≤◌, ◌<◌, ◌↔◌, ◌⊎◌, ◌≡◌, Bool, true, false, not, List, [], length, get_or, take, drop, eqb, Err}
 use Rattle.scan.specs.declared.Cursor.{Cursor}
 use Rattle.scan.specs.declared.Lit.{Lit}
 use Rattle.scan.specs.declared.Token.{Token}
@@ -9,7 +9,6 @@ use Rattle.scan.specs.Scan.{past, scan, start, open_end}
 use Rattle.written.specs.declared.Counts.{Counts}
 use Rattle.written.specs.declared.Reason.TheVariants.{TableTooShort, TextTooLong, ByteNotAllowed, NinthByte, TooManyTerms, TooManyLiterals, TooManyClauses, NoClause, BlankLine}
 use Rattle.written.specs.declared.Fault.{Fault}
-use Rattle.written.specs.declared.Read.TheVariants as R
 use Rattle.written.specs.Lists.{has, times, zeros}
 use Rattle.written.specs.Limits.{Limits}
 use Rattle.written.specs.Reasons.{number_of, fault, fault_at}
@@ -46,7 +45,7 @@ pub record LeftAlone (lim : Limits) (t : Tables) (ms : List ℕ) (e : Fault) (u 
   pub left : u ≡ t
   pub marks : us ≡ ms
   -- "A refused reading returns four counts of 0, for reason 1 too"
-  pub values : read_values (R.Refused e) ≡ record { result = 0; reason = 1; line = 0; walks = 0; flips = 0; counts = no_counts }
+  pub values : read_values (Err e) ≡ record { result = 0; reason = 1; line = 0; walks = 0; flips = 0; counts = no_counts }
   -- no table agrees with these counts
   pub disagrees : agree_marked lim no_counts u us ≡ false
 
@@ -61,7 +60,7 @@ pub record Zeroed (lim : Limits) (t : Tables) (ms : List ℕ) (e : Fault) (u : T
   pub beyond : each drop (full_sizes lim) u ≡ each drop (full_sizes lim) t
   pub full : full_marked lim u us ≡ true
   -- "all four counts are then 0"
-  pub values : read_values (R.Refused e) ≡ record { result = 0; reason = number_of e.reason; line = e.line; walks = 0; flips = 0; counts = no_counts }
+  pub values : read_values (Err e) ≡ record { result = 0; reason = number_of e.reason; line = e.line; walks = 0; flips = 0; counts = no_counts }
   -- no clause stands in such tables, so no counts agree with them, these four neither
   pub disagrees : (m : Counts) → agree_marked lim m u us ≡ false
 
@@ -84,7 +83,7 @@ pub record Emptied (lim : Limits) (text : List ℕ) (t : Tables) (ms : List ℕ)
   pub beyond : each drop (full_sizes lim) u ≡ each drop (full_sizes lim) t
   pub full : full_marked lim u us ≡ true
   -- "all four counts are then 0"
-  pub values : read_values (R.Refused e) ≡ record { result = 0; reason = number_of e.reason; line = e.line; walks = 0; flips = 0; counts = no_counts }
+  pub values : read_values (Err e) ≡ record { result = 0; reason = number_of e.reason; line = e.line; walks = 0; flips = 0; counts = no_counts }
   -- no clause stands in such tables, so no counts agree with them, these four neither
   pub disagrees : (m : Counts) → agree_marked lim m u us ≡ false
 
@@ -163,10 +162,10 @@ pub record Given (lim : Limits) (text : List ℕ) (t : Tables) (ms : List ℕ) :
   -- "text not empty and last byte not 10"
   pub reason_3 : (reason_given lim text t ms ≡ 3) ↔ ((full_marked lim t ms ≡ true) × ((length text ≤ lim.text) × (open_end text ≡ true)))
   -- those that name a line, and 9, each as `Fails` says it
-  pub from-left : (e : Fault) → (names_line e.reason ≡ true) ⊎ (e.reason ≡ NoClause) → ((reading_of lim text t ms).answer ≡ R.Refused e) ↔ Stopped lim text t ms e
+  pub from-left : (e : Fault) → (names_line e.reason ≡ true) ⊎ (e.reason ≡ NoClause) → ((reading_of lim text t ms).answer ≡ Err e) ↔ Stopped lim text t ms e
   -- "no clause kept"
   pub reason_9 : (reason_given lim text t ms ≡ 9) ↔ ((full_marked lim t ms ≡ true) × (read_text lim text ≡ refused (fault NoClause)))
   -- no other than 1, 2 and the text's own
-  pub no_other : (e : Fault) → (reading_of lim text t ms).answer ≡ R.Refused e → (e.reason ≡ TableTooShort) ⊎ ((e.reason ≡ TextTooLong) ⊎ (of_text e.reason ≡ true))
+  pub no_other : (e : Fault) → (reading_of lim text t ms).answer ≡ Err e → (e.reason ≡ TableTooShort) ⊎ ((e.reason ≡ TextTooLong) ⊎ (of_text e.reason ≡ true))
   -- none is given to a text that can be read
   pub no_reason : (reason_given lim text t ms ≡ 0) ↔ ((full_marked lim t ms ≡ true) × ((f : File) × (read_text lim text ≡ accepted f)))

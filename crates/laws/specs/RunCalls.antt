@@ -1,6 +1,6 @@
 -- The program's run, in the document's words: `printed lim input` is what it prints, of the bytes of its input, and `run_of lim input t b` what it
 -- leaves, of lent tables t and a lent buffer b. Assumes nothing.
-use Rattle.std.specs.Prelude.{ℕ, zero, suc, ◌*◌, ◌≤◌, ◌<◌, ◌↔◌, ◌⊎◌, ◌≡◌, Bool, true, false, List, [], ◌∷◌, ◌++◌, map, length, get_or, take, drop, eqb}
+use Rattle.std.specs.Prelude.{ℕ, zero, suc, ◌*◌, ◌≤◌, ◌<◌, ◌↔◌, ◌⊎◌, ◌≡◌, Bool, true, false, List, [], ◌∷◌, ◌++◌, map, length, get_or, take, drop, eqb, Result, Ok, Err}
 use Prim.Native.String.{String}
 use Rattle.scan.specs.declared.Cursor.{Cursor}
 use Rattle.scan.specs.declared.Token.{Token}
@@ -8,8 +8,6 @@ use Rattle.scan.specs.declared.Token.TheVariants.{Literal, True, Line, End, Cut,
 use Rattle.scan.specs.Scan.{scan, cursor_at}
 use Rattle.scan.specs.Text.{bytes}
 use Rattle.written.specs.declared.Sheet.{Sheet}
-use Rattle.written.specs.declared.Ordered.{Ordered}
-use Rattle.written.specs.declared.Ordered.TheVariants as O
 use Rattle.written.specs.declared.Reason.TheVariants.{TextTooLong}
 use Rattle.written.specs.declared.Fault.{Fault}
 use Rattle.written.specs.Lists.{below, has, place_of, times, differ}
@@ -59,7 +57,7 @@ abbrev pub GivesUp : Limits → List ℕ → Type 0
 GivesUp lim input = (e : Outcome) × (course_of lim input ≡ walked e) × (e.found ≡ false)
 
 abbrev pub IsRefused : Limits → List ℕ → Type 0
-IsRefused lim input = ((a : Ordered) × (course_of lim input ≡ unbegun a)) ⊎ ((e : Fault) × (course_of lim input ≡ unread e))
+IsRefused lim input = ((a : Result Sheet Fault) × (course_of lim input ≡ unbegun a)) ⊎ ((e : Fault) × (course_of lim input ≡ unread e))
 
 pub record Decides (lim : Limits) (input : List ℕ) : Type 0 where
   pub found : Begins "result=found\n" (printed lim input) ↔ Finds lim input
@@ -73,7 +71,7 @@ pub record Decides (lim : Limits) (input : List ℕ) : Type 0 where
 -- the tests 2, 10 and 11 are passed: s is the sheet
 pub record Begun (lim : Limits) (input : List ℕ) (s : Sheet) : Type 0 where
   pub short : length input ≤ lim.text
-  pub sheet : sheet_of input ≡ O.Accepted s
+  pub sheet : sheet_of input ≡ Ok s
 
 -- "then the clause text"
 abbrev pub text_after : Sheet → List ℕ → List ℕ
@@ -83,7 +81,7 @@ text_after s input = drop s.at input
 pub data Refuses (lim : Limits) (input : List ℕ) : Fault → Type 0 where
   -- "text (or program input) over 65,536 bytes"
   too_long : lim.text < length input → Refuses lim input (fault TextTooLong)
-  bad-sheet : (e : Fault) → length input ≤ lim.text → sheet_of input ≡ O.Refused e → Refuses lim input e
+  bad-sheet : (e : Fault) → length input ≤ lim.text → sheet_of input ≡ Err e → Refuses lim input e
   bad-text : (s : Sheet) (e : Fault) → Begun lim input s → read_text lim (text_after s input) ≡ refused e → Refuses lim input e
 
 -- "given exactly when": the lines of a refusal are printed, and these are all that is printed
@@ -94,7 +92,7 @@ pub record Given (lim : Limits) (input : List ℕ) : Type 0 where
   pub of-text : (e : Fault) → of_text e.reason ≡ true
       → (printed lim input ≡ refusal e) ↔ ((s : Sheet) × Begun lim input s × (read_text lim (text_after s input) ≡ refused e))
   -- the sheet's
-  pub of-sheet : (e : Fault) → of_sheet e.reason ≡ true → (printed lim input ≡ refusal e) ↔ ((length input ≤ lim.text) × (sheet_of input ≡ O.Refused e))
+  pub of-sheet : (e : Fault) → of_sheet e.reason ≡ true → (printed lim input ≡ refusal e) ↔ ((length input ≤ lim.text) × (sheet_of input ≡ Err e))
   -- no other is given: not 1, 12, 13 or 14
   pub no_other : (e : Fault) → printed lim input ≡ refusal e → (e.reason ≡ TextTooLong) ⊎ ((of_text e.reason ≡ true) ⊎ (of_sheet e.reason ≡ true))
 

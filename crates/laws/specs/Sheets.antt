@@ -1,9 +1,7 @@
 -- An order sheet, in the document's words: `sheet_of input` is what its answer is. Assumes nothing.
-use Rattle.std.specs.Prelude.{ℕ, zero, suc, ◌-◌, ◌<◌, ◌≡◌, true, false, List, [], ◌∷◌, ◌++◌, length, get_or, drop}
+use Rattle.std.specs.Prelude.{ℕ, zero, suc, ◌-◌, ◌<◌, ◌≡◌, true, false, List, [], ◌∷◌, ◌++◌, length, get_or, drop, Result, Ok, Err}
 use Rattle.scan.specs.Text.{bytes}
 use Rattle.written.specs.declared.Sheet.{Sheet}
-use Rattle.written.specs.declared.Ordered.{Ordered}
-use Rattle.written.specs.declared.Ordered.TheVariants.{Accepted, Refused}
 use Rattle.written.specs.declared.Reason.{Reason}
 use Rattle.written.specs.declared.Reason.TheVariants.{SheetForm, OutOfRange}
 use Rattle.written.specs.declared.Fault.{Fault}
@@ -56,7 +54,7 @@ pub record Named (input : List ℕ) (e : Fault) : Type 0 where
   pub faulty : Faulty input line e.reason
   pub named : e.line ≡ suc line
   -- "a refused sheet zeros"
-  pub values : sheet_values (Refused e) ≡ record { result = 0; reason = number_of e.reason; line = suc line; sheet = no_sheet }
+  pub values : sheet_values (Err e) ≡ record { result = 0; reason = number_of e.reason; line = suc line; sheet = no_sheet }
 
 -- what follows the four lines: the mode and the clause text
 pub data Fifth (rest : List ℕ) : ℕ → List ℕ → Type 0 where
@@ -75,24 +73,24 @@ pub record Taken (input : List ℕ) (s : Sheet) : Type 0 where
   pub text-begins : s.at ≡ length input - length text
 
 -- what an answer says of its input
-abbrev pub Says : List ℕ → Ordered → Type 0
-Says input (Accepted s) = Taken input s
-Says input (Refused e) = Named input e
+abbrev pub Says : List ℕ → Result Sheet Fault → Type 0
+Says input (Ok s) = Taken input s
+Says input (Err e) = Named input e
 
 -- ---- the fifth line apart
 
 -- "an order sheet of four lines, then the clause text": the sheet as document 01 alone has it
-unfoldable pub four_lines : List ℕ → Ordered
+unfoldable pub four_lines : List ℕ → Result Sheet Fault
 four_lines input =
     four_then input λ s f w b text.
-    Accepted (record { order = record { seed = s; flips = f; walks = w; bias = b; even = 0 }; at = length input - length text })
+    Ok (record { order = record { seed = s; flips = f; walks = w; bias = b; even = 0 }; at = length input - length text })
 
 -- a sheet in a mode, whose clause text begins at a place
 abbrev pub in_mode : Sheet → ℕ → ℕ → Sheet
 in_mode s e at = record { order = record { seed = s.order.seed; flips = s.order.flips; walks = s.order.walks; bias = s.order.bias; even = e }; at = at }
 
 -- what the fifth line makes of it
-abbrev pub after_four : List ℕ → Ordered → Ordered
-after_four input (Refused e) = Refused e
-after_four input (Accepted s) =
-    optional 5 (bytes "choice=") (bytes "choice=even\n") (drop s.at input) λ e text. Accepted (in_mode s e (length input - length text))
+abbrev pub after_four : List ℕ → Result Sheet Fault → Result Sheet Fault
+after_four input (Err e) = Err e
+after_four input (Ok s) =
+    optional 5 (bytes "choice=") (bytes "choice=even\n") (drop s.at input) λ e text. Ok (in_mode s e (length input - length text))

@@ -1,6 +1,6 @@
 -- A walk as a call, in the words of demands 1 and 2 and of the document: `walk_of lim o n t ms` is what the walks of the order o answer and leave,
 -- with counts n, lent tables t and marks ms. Assumes nothing.
-use Rattle.std.specs.Prelude.{ℕ, suc, ◌*◌, ◌≤◌, ◌<◌, ◌↔◌, ◌⊎◌, ◌≡◌, true, false, List, [], length, get_or}
+use Rattle.std.specs.Prelude.{ℕ, suc, ◌*◌, ◌≤◌, ◌<◌, ◌↔◌, ◌⊎◌, ◌≡◌, true, false, List, [], length, get_or, Ok, Err}
 use Rattle.draw.specs.Xorshift.{next_of}
 use Rattle.words.specs.Words.{state_after, word_count}
 use Rattle.written.specs.declared.Counts.{Counts}
@@ -147,18 +147,18 @@ pub record Refused (lim : Limits) (o : Order) (n : Counts) (t : Tables) (ms : Li
   -- "all unchanged"
   pub left : u ≡ t
   -- "A refused walk [..] returns the counts it was given; a refused walk returns 0 walks and 0 flips"; its line is 0
-  pub values : walk_values (W.Refused e) ≡ record { result = 0; reason = number_of e.reason; line = 0; walks = 0; flips = 0; counts = n }
+  pub values : walk_values (Err e) ≡ record { result = 0; reason = number_of e.reason; line = 0; walks = 0; flips = 0; counts = n }
 
 -- ---- the three outcomes: "found, gave up, or refused by a listed reason"
 
 abbrev pub IsFound : Limits → Order → Counts → Tables → List ℕ → Type 0
-IsFound lim o n t ms = (e : Tour) × ((walk_of lim o n t ms).answer ≡ W.Found e) × Found lim o n t ms e (walk_of lim o n t ms).tables
+IsFound lim o n t ms = (e : Tour) × ((walk_of lim o n t ms).answer ≡ Ok (W.Found e)) × Found lim o n t ms e (walk_of lim o n t ms).tables
 
 abbrev pub IsGivenUp : Limits → Order → Counts → Tables → List ℕ → Type 0
-IsGivenUp lim o n t ms = (e : Tour) × ((walk_of lim o n t ms).answer ≡ W.GaveUp e) × GaveUp lim o n t ms e (walk_of lim o n t ms).tables
+IsGivenUp lim o n t ms = (e : Tour) × ((walk_of lim o n t ms).answer ≡ Ok (W.GaveUp e)) × GaveUp lim o n t ms e (walk_of lim o n t ms).tables
 
 abbrev pub IsRefused : Limits → Order → Counts → Tables → List ℕ → Type 0
-IsRefused lim o n t ms = (e : Refusal) × ((walk_of lim o n t ms).answer ≡ W.Refused e) × Refused lim o n t ms e (walk_of lim o n t ms).tables
+IsRefused lim o n t ms = (e : Refusal) × ((walk_of lim o n t ms).answer ≡ Err e) × Refused lim o n t ms e (walk_of lim o n t ms).tables
 
 -- ---- demand 2 of tables u and marks us that a reading has filled with a file, counts n, where t was lent: no term is pinned
 
@@ -168,8 +168,8 @@ pub record WalksOver (lim : Limits) (f : File) (o : Order) (t : Tables) (n : Cou
   pub file : file_in n u ≡ f
   pub made : written o n u us ≡ walk_over o [] f
   -- "A found answer names every term once, and each clause kept has a true literal."
-  pub finds : (walk_over o [] f).found ≡ true → ((walk_of lim o n u us).answer ≡ W.Found (tour (walk_over o [] f))) × Found lim o n u us (tour (walk_over o [] f)) (walk_of lim o n u us).tables
-  pub gives_up : (walk_over o [] f).found ≡ false → ((walk_of lim o n u us).answer ≡ W.GaveUp (tour (walk_over o [] f))) × GaveUp lim o n u us (tour (walk_over o [] f)) (walk_of lim o n u us).tables
+  pub finds : (walk_over o [] f).found ≡ true → ((walk_of lim o n u us).answer ≡ Ok (W.Found (tour (walk_over o [] f)))) × Found lim o n u us (tour (walk_over o [] f)) (walk_of lim o n u us).tables
+  pub gives_up : (walk_over o [] f).found ≡ false → ((walk_of lim o n u us).answer ≡ Ok (W.GaveUp (tour (walk_over o [] f)))) × GaveUp lim o n u us (tour (walk_over o [] f)) (walk_of lim o n u us).tables
   -- "Giving up is reported only when the written walk gives up."
-  pub found-only : (e : Tour) → (walk_of lim o n u us).answer ≡ W.Found e → (walk_over o [] f).found ≡ true
-  pub up-only : (e : Tour) → (walk_of lim o n u us).answer ≡ W.GaveUp e → (walk_over o [] f).found ≡ false
+  pub found-only : (e : Tour) → (walk_of lim o n u us).answer ≡ Ok (W.Found e) → (walk_over o [] f).found ≡ true
+  pub up-only : (e : Tour) → (walk_of lim o n u us).answer ≡ Ok (W.GaveUp e) → (walk_over o [] f).found ≡ false

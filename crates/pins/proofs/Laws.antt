@@ -7,14 +7,12 @@ use native.Mathlib.Omega.{arith}
 use lib.ListN.{length, get_or, set}
 use lib.Dec.{ltb}
 use borrow.Author.Tests.{ltb-true, lt-ltb, le-ltb, leb-true, eq-eqb, ne_eqb}
+use Rattle.std.specs.Prelude.{Result, Ok, Err, ⊤}
 use Rattle.words.specs.Words.{bit_at}
+use Rattle.written.specs.declared.Refusal.{Refusal}
 use Rattle.written.specs.declared.Counts.{Counts}
 use Rattle.written.specs.declared.Reason.{Reason}
 use Rattle.written.specs.declared.Reason.TheVariants.{TableTooShort, TablesDisagree, UnknownTerm}
-use Rattle.written.specs.declared.Flipped.{Flipped}
-use Rattle.written.specs.declared.Flipped.TheVariants as F
-use Rattle.written.specs.declared.Tested.{Tested}
-use Rattle.written.specs.declared.Tested.TheVariants.{Passed, Failed}
 use Rattle.written.specs.Limits.{Limits}
 use Rattle.written.specs.Clauses.{State}
 use Rattle.written.specs.Tables.{Tables}
@@ -35,7 +33,7 @@ use Rattle.pins.specs.Tests.{tests_of}
 -- ---- the ways out of the tests, each test as it was answered
 
 module _ (lim : Limits) (k : ℕ) (n : Counts) (t : Tables) (ms : List ℕ) {a : Bool} (asked : a ≡ full_marked lim t ms) where
-  pub tests-short : not a ≡ true → Failed TableTooShort ≡ tests_of lim k n t ms
+  pub tests-short : not a ≡ true → Err TableTooShort ≡ tests_of lim k n t ms
   unfolding tests_of
   tests-short q = rw (said_no q asked) refl
 
@@ -43,7 +41,7 @@ module _ (lim : Limits) (k : ℕ) (n : Counts) (t : Tables) (ms : List ℕ) {a :
     full_is : full_marked lim t ms ≡ true
     full_is = said-yes full asked
 
-    pub tests-disagree : not b ≡ true → Failed TablesDisagree ≡ tests_of lim k n t ms
+    pub tests-disagree : not b ≡ true → Err TablesDisagree ≡ tests_of lim k n t ms
     unfolding tests_of
     tests-disagree q = rw (full_is, second_no (full_marked lim t ms) (agree_marked lim n t ms) full_is (said_no q agrees)) refl
 
@@ -51,11 +49,11 @@ module _ (lim : Limits) (k : ℕ) (n : Counts) (t : Tables) (ms : List ℕ) {a :
       agree-is : agree_marked lim n t ms ≡ true
       agree-is = second-yes (full_marked lim t ms) (agree_marked lim n t ms) full_is (said-yes agreed agrees)
 
-      pub tests-unknown : n.terms ≤ k → Failed UnknownTerm ≡ tests_of lim k n t ms
+      pub tests-unknown : n.terms ≤ k → Err UnknownTerm ≡ tests_of lim k n t ms
       unfolding tests_of
       tests-unknown l = rw (full_is, agree-is, le-ltb k n.terms l) refl
 
-      pub tests-passed : k < n.terms → Passed ≡ tests_of lim k n t ms
+      pub tests-passed : k < n.terms → Ok tt ≡ tests_of lim k n t ms
       unfolding tests_of
       tests-passed l = rw (full_is, agree-is, lt-ltb k n.terms l) refl
 
@@ -103,15 +101,15 @@ module _ (lim : Limits) (k : ℕ) (n : Counts) (t : Tables) (h : CanFlipList lim
   -- b was read for its value, and v is asked for as a
   module _ (v : ℕ) {a b : ℕ} (read : b ≡ bit_at t.values k) (asked : a ≡ value_asked v) where
     -- nothing is done where it stands
-    pub stays : b ≡ a → ten (F.Applied n) t ≡ ten_of (flips_leave lim t [] (flipped (flips_for k (value_asked v) s) s))
+    pub stays : b ≡ a → ten (Ok n) t ≡ ten_of (flips_leave lim t [] (flipped (flips_for k (value_asked v) s) s))
     unfolding flips_leave flips_for flipped
     stays same =
         rw (eq-eqb (get_or s.values k 0) (value_asked v) (value-is ∙ sym read ∙ same ∙ asked))
-        (both-ten (ap F.Applied (sym (agree-counts lim n t h.agrees h.full))) (sym (agree-holding lim n t h.agrees h.full)))
+        (both-ten (ap Ok (sym (agree-counts lim n t h.agrees h.full))) (sym (agree-holding lim n t h.agrees h.full)))
 
     -- else the term is flipped
-    pub turns : (b ≡ a → ⊥) → {r : Counts} {u : Tables} → ten (F.Applied r) u ≡ ten_of (flips_leave lim t [] (flipped (k ∷ []) s))
-        → ten (F.Applied r) u ≡ ten_of (flips_leave lim t [] (flipped (flips_for k (value_asked v) s) s))
+    pub turns : (b ≡ a → ⊥) → {r : Counts} {u : Tables} → ten (Ok r) u ≡ ten_of (flips_leave lim t [] (flipped (k ∷ []) s))
+        → ten (Ok r) u ≡ ten_of (flips_leave lim t [] (flipped (flips_for k (value_asked v) s) s))
     unfolding flips_for
     turns differ e = rw (ne_eqb (get_or s.values k 0) (value_asked v) (λ q. differ (read ∙ sym value-is ∙ q ∙ sym asked))) e
 
@@ -125,9 +123,9 @@ module _ (lim : Limits) (k : ℕ) (n : Counts) (t : Tables) (ms : List ℕ) wher
     known : k < n.terms
 
   -- what the tests say by what they come to
-  abbrev Says : Tested → Type 0
-  Says Passed = CanMark
-  Says (Failed e) = (p : Leaves Flipped) → term_tested lim k n t ms p ≡ flips_refused n t ms e
+  abbrev Says : Result ⊤ Reason → Type 0
+  Says (Ok tt) = CanMark
+  Says (Err e) = (p : Leaves (Result Counts Refusal)) → term_tested lim k n t ms p ≡ flips_refused n t ms e
 
   tests_say : Says (tests_of lim k n t ms)
   unfolding term_tested tests_of
@@ -135,34 +133,34 @@ module _ (lim : Limits) (k : ℕ) (n : Counts) (t : Tables) (ms : List ℕ) wher
       by_cases (full_marked lim t ms)
       (λ a. by_cases (agree_marked lim n t ms)
       (λ b. by_cases (ltb k n.terms) (λ d. rw (a, b, d) (record { full = a; agrees = b; known = ltb-true k n.terms d }))
-      (λ d. let q : Says (Failed UnknownTerm) = λ p. rw (a, b, d) refl in rw (a, b, d) q))
-      (λ b. let q : Says (Failed TablesDisagree) = λ p. rw (a, b) refl in rw (a, b) q))
-      (λ a. let q : Says (Failed TableTooShort) = λ p. rw a refl in rw a q)
+      (λ d. let q : Says (Err UnknownTerm) = λ p. rw (a, b, d) refl in rw (a, b, d) q))
+      (λ b. let q : Says (Err TablesDisagree) = λ p. rw (a, b) refl in rw (a, b) q))
+      (λ a. let q : Says (Err TableTooShort) = λ p. rw a refl in rw a q)
 
   -- what they said, as a
-  module _ {a : Tested} (asked : a ≡ tests_of lim k n t ms) where
+  module _ {a : Result ⊤ Reason} (asked : a ≡ tests_of lim k n t ms) where
     -- where one fails, nothing changes
-    module _ {e : Reason} (q : a ≡ Failed e) where
-      refused : (p : Leaves Flipped) → leaves (F.Refused (record { reason = e; counts = n })) t ms ≡ term_tested lim k n t ms p
+    module _ {e : Reason} (q : a ≡ Err e) where
+      refused : (p : Leaves (Result Counts Refusal)) → leaves (Err (record { reason = e; counts = n })) t ms ≡ term_tested lim k n t ms p
       refused p = sym (subst Says (sym asked ∙ q) tests_say p)
 
-      pub pin-refused : (v : ℕ) → leaves (F.Refused (record { reason = e; counts = n })) t ms ≡ pin_of lim k v n t ms
+      pub pin-refused : (v : ℕ) → leaves (Err (record { reason = e; counts = n })) t ms ≡ pin_of lim k v n t ms
       unfolding pin_of
       pin-refused v = refused _
 
-      pub lift-refused : leaves (F.Refused (record { reason = e; counts = n })) t ms ≡ lift_of lim k n t ms
+      pub lift-refused : leaves (Err (record { reason = e; counts = n })) t ms ≡ lift_of lim k n t ms
       unfolding lift_of
       lift-refused = refused _
 
     -- where all are passed
-    module _ (q : a ≡ Passed) where
+    module _ (q : a ≡ Ok tt) where
       can : CanMark
       can = subst Says (sym asked ∙ q) tests_say
 
       tables_agree : agree lim n t ≡ true
       tables_agree = agree-tables lim t ms n can.agrees
 
-      passed : (p : Leaves Flipped) → term_tested lim k n t ms p ≡ p
+      passed : (p : Leaves (Result Counts Refusal)) → term_tested lim k n t ms p ≡ p
       unfolding term_tested
       passed p = rw (can.full, can.agrees, lt-ltb k n.terms can.known) refl
 
@@ -177,11 +175,11 @@ module _ (lim : Limits) (k : ℕ) (n : Counts) (t : Tables) (ms : List ℕ) wher
           omega (arith, can.known, many, (counts-fit lim n (both_first (counts_fit lim n) _ tables_agree)).terms)
 
       pub was-pinned : (v : ℕ) {r : Counts} {u : Tables} {m : List ℕ} → m ≡ set ms k (1 + value_asked v)
-          → ten (F.Applied r) u ≡ ten_of (flips_leave lim t [] (flipped (flips_for k (value_asked v) (state_in n t)) (state_in n t)))
-          → leaves (F.Applied r) u m ≡ pin_of lim k v n t ms
+          → ten (Ok r) u ≡ ten_of (flips_leave lim t [] (flipped (flips_for k (value_asked v) (state_in n t)) (state_in n t)))
+          → leaves (Ok r) u m ≡ pin_of lim k v n t ms
       unfolding pin_of flips_leave
       was-pinned v marked e = ten-marked e marked ∙ sym (passed _)
 
-      pub was-lifted : leaves (F.Applied n) t (set ms k 0) ≡ lift_of lim k n t ms
+      pub was-lifted : leaves (Ok n) t (set ms k 0) ≡ lift_of lim k n t ms
       unfolding lift_of
       was-lifted = sym (passed _)

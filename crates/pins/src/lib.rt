@@ -2,8 +2,7 @@
 
 #![tactic(auto)]
 
-ghost use Rattle.std.specs.Prelude.{◌≡◌, [], ◌∷◌, ◌+◌, ◌<◌, length, set};
-ghost use Rattle.written.specs.declared.Flipped.TheVariants.{Applied};
+ghost use Rattle.std.specs.Prelude.{◌≡◌, [], ◌∷◌, ◌+◌, ◌<◌, length, set, Ok};
 ghost use Rattle.written.specs.Limits.{narrow};
 ghost use Rattle.written.specs.Lending.{lent_at};
 ghost use Rattle.written.specs.Agreement.{state_in};
@@ -14,22 +13,22 @@ ghost use Rattle.pins.specs.Tests.{tests_of};
 ghost use Rattle.tables.specs.Seen.{seen};
 
 use tables::Tables;
-use written::{Counts, Flipped, Reason, Refusal, Tested};
+use written::{Counts, Reason, Refusal};
 
 // The tests of a pin and of a lift, in their order: 1, 12, 13.
-fn verdict(term: usize, n: Counts, tables: Tables, marks: &[u8]) -> Tested
+fn verdict(term: usize, n: Counts, tables: Tables, marks: &[u8]) -> Result<(), Reason>
     ensures { result ≡ tests_of narrow term n (seen tables.entry) marks.now }
 {
     if !tables.all_full(marks) {
-        return Tested::Failed(Reason::TableTooShort);
+        return Err(Reason::TableTooShort);
     }
     if !marked::agrees(n, tables, marks) {
-        return Tested::Failed(Reason::TablesDisagree);
+        return Err(Reason::TablesDisagree);
     }
     if term >= n.terms as usize {
-        return Tested::Failed(Reason::UnknownTerm);
+        return Err(Reason::UnknownTerm);
     }
-    Tested::Passed
+    Ok(())
 }
 
 // The value asked for: 0 by 0, and 1 by any other number.
@@ -72,7 +71,7 @@ fn flip_to(
 ) -> Counts
     requires { CanFlipList narrow (term ∷ []) n (lent_at names.now values.old starts.now literals.now occurrence_starts.now occurrences.now trues.old
         breaks.old uncovered.old places.old) }
-    ensures { ten (Applied result) (lent_at names.now values.new starts.now literals.now occurrence_starts.now occurrences.now trues.new
+    ensures { ten (Ok result) (lent_at names.now values.new starts.now literals.now occurrence_starts.now occurrences.now trues.new
         breaks.new uncovered.new places.new)
         ≡ ten_of (flips_leave narrow (lent_at names.now values.old starts.now literals.now occurrence_starts.now occurrences.now trues.old
         breaks.old uncovered.old places.old) []
@@ -117,7 +116,7 @@ pub fn pin(
     uncovered: &mut [u16],
     places: &mut [u16],
     marks: &mut [u8],
-) -> Flipped
+) -> Result<Counts, Refusal>
     ensures { leaves result (lent_at names.now values.new starts.now literals.now occurrence_starts.now occurrences.now trues.new breaks.new
         uncovered.new places.new) marks.new
         ≡ pin_of narrow term value n (lent_at names.now values.old starts.now literals.now occurrence_starts.now occurrences.now trues.old
@@ -136,17 +135,9 @@ pub fn pin(
         uncovered,
         places,
     };
-    match verdict(term, n, tables, marks) {
-        Tested::Failed(reason) => {
-            return Flipped::Refused(Refusal {
-                reason: reason,
-                counts: n,
-            });
-        }
-        Tested::Passed => {}
-    }
+    verdict(term, n, tables, marks).map_err(|reason| Refusal { reason, counts: n })?;
     mark_term(marks, term, value);
-    Flipped::Applied(flip_to(
+    Ok(flip_to(
         term,
         value,
         n,
@@ -164,19 +155,11 @@ pub fn pin(
 }
 
 // The term's mark cleared, or a refusal that changes nothing.
-pub fn lift(term: usize, n: Counts, tables: Tables, marks: &mut [u8]) -> Flipped
+pub fn lift(term: usize, n: Counts, tables: Tables, marks: &mut [u8]) -> Result<Counts, Refusal>
     ensures { leaves result (seen tables.entry) marks.new
         ≡ lift_of narrow term n (seen tables.entry) marks.old }
 {
-    match verdict(term, n, tables, marks) {
-        Tested::Failed(reason) => {
-            return Flipped::Refused(Refusal {
-                reason: reason,
-                counts: n,
-            });
-        }
-        Tested::Passed => {}
-    }
+    verdict(term, n, tables, marks).map_err(|reason| Refusal { reason, counts: n })?;
     marks[term] = 0;
-    Flipped::Applied(n)
+    Ok(n)
 }

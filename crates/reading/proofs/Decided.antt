@@ -5,9 +5,10 @@ use mathlib.Core.List.{List, []}
 use Prim.Native.Nat.{ℕ}
 use lib.ListN.{length}
 use borrow.Author.Tests.{leb-true}
+use Rattle.std.specs.Prelude.{Result, Ok, Err}
+use Rattle.written.specs.declared.Fault.{Fault}
+use Rattle.written.specs.declared.Counts.{Counts}
 use Rattle.written.specs.declared.Reason.TheVariants.{TableTooShort}
-use Rattle.written.specs.declared.Read.{Read}
-use Rattle.written.specs.declared.Read.TheVariants as R
 use Rattle.written.specs.Limits.{Limits}
 use Rattle.written.specs.Reasons.{fault}
 use Rattle.written.specs.Clauses.{as_read}
@@ -39,8 +40,8 @@ module _ (lim : Limits) (t : Tables) (full : are_full lim t ≡ true) {u : Table
 -- what is read into cleared tables is what is read into those before; it comes to r
 leaves-cleared : (lim : Limits) (r : Reading) → Sound lim r → (t : Tables) → ten_of (read_leaves lim (cleared lim t) [] r) ≡ ten_of (read_leaves lim t [] r)
 unfolding read_leaves
-leaves-cleared lim (accepted f) proper t = ap (ten (R.Accepted (counts_of (as_read f)))) (holding-cleared lim (as_read f) t (as_read-valid lim f proper))
-leaves-cleared lim (refused f) _ t = ap (ten (R.Refused f)) (cleared-again lim t)
+leaves-cleared lim (accepted f) proper t = ap (ten (Ok (counts_of (as_read f)))) (holding-cleared lim (as_read f) t (as_read-valid lim f proper))
+leaves-cleared lim (refused f) _ t = ap (ten (Err f)) (cleared-again lim t)
 
 decided : (lim : Limits) (r : Reading) → Sound lim r → (t : Tables) → are_full lim t ≡ true → {u : Tables} → u ≡ blanked lim t
     → ten_of (read_leaves lim u [] r) ≡ ten_of (read_leaves lim t [] r)
@@ -59,12 +60,12 @@ module _ (lim : Limits) (t : Tables) (full : are_full lim t ≡ true) {w : Desk}
   is-bare = now_bare lim t full (both-wiped lim t p q)
 
   -- what was read
-  pub was_read : (r : Reading) → Sound lim r → {l : Ten Read} → l ≡ ten_of (read_leaves lim (joined w o) [] r) → l ≡ ten_of (read_leaves lim t [] r)
+  pub was_read : (r : Reading) → Sound lim r → {l : Ten (Result Counts Fault)} → l ≡ ten_of (read_leaves lim (joined w o) [] r) → l ≡ ten_of (read_leaves lim t [] r)
   was_read r sound e = e ∙ decided lim r sound t full (both-wiped lim t p q)
 
 -- a was answered to whether the tables and the marks are full; what is read comes to q
 module _ (lim : Limits) (q : Reading) (t : Tables) (ms : List ℕ) {a : Bool} (asked : a ≡ full_marked lim t ms) where
-  pub was-short : not a ≡ true → leaves (R.Refused (fault TableTooShort)) t ms ≡ read_into lim q t ms
+  pub was-short : not a ≡ true → leaves (Err (fault TableTooShort)) t ms ≡ read_into lim q t ms
   was-short h = sym (short_into lim q t ms (said_no h asked))
 
   module _ (h : not a ≡ false) where
@@ -75,7 +76,7 @@ module _ (lim : Limits) (q : Reading) (t : Tables) (ms : List ℕ) {a : Bool} (a
     tables-full = full-tables lim t ms full
 
     -- the marks cleared, and the text read into the tables
-    pub was-marked : {r : Read} {u : Tables} {ns : List ℕ} → ns ≡ zeroed lim.terms ms → ten r u ≡ ten_of (read_leaves lim t [] q)
+    pub was-marked : {r : Result Counts Fault} {u : Tables} {ns : List ℕ} → ns ≡ zeroed lim.terms ms → ten r u ≡ ten_of (read_leaves lim t [] q)
         → leaves r u ns ≡ read_into lim q t ms
     unfolding unmarked marks_full
     was-marked wiped e =

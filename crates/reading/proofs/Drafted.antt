@@ -2,10 +2,9 @@
 use mathlib.Core.Path.{◌≡◌, ap, sym, ◌∙◌, subst}
 use mathlib.Core.List.{List, []}
 use Prim.Native.Nat.{ℕ, ◌+◌, ◌*◌, ◌≤◌, ◌<◌}
+use Rattle.std.specs.Prelude.{Result, Ok, ⊤}
+use Rattle.written.specs.declared.Reason.{Reason}
 use Rattle.written.specs.declared.Counts.{Counts}
-use Rattle.written.specs.declared.Read.TheVariants as R
-use Rattle.written.specs.declared.Tested.{Tested}
-use Rattle.written.specs.declared.Tested.TheVariants.{Passed}
 use Rattle.written.specs.Limits.{Limits}
 use Rattle.written.specs.Clauses.{File}
 use Rattle.written.specs.Reading.{Reading, accepted, after_tests}
@@ -28,8 +27,8 @@ use Rattle.reading_end.proofs.Whole.{can-finish, whole-leaves}
 use Rattle.reading.proofs.Texts.{passed-read}
 
 -- put together from what the calls gave, as they gave it: the text's bytes come to r, v was answered to its tests, and the draft ended by z, in the tables w
-module _ (lim : Limits) (text : List ℕ) (r : Reading) (sound : Sound lim (after_tests lim text r)) (t : Tables) (b : Bare lim t) {v : Tested} (asked : v ≡ text_tests lim text)
-    (told : v ≡ Passed) (w : Desk) {z : Ended} (drawn : Laying lim r (desk_in t) w z) {p : Place} (ended : z ≡ E.Whole p)
+module _ (lim : Limits) (text : List ℕ) (r : Reading) (sound : Sound lim (after_tests lim text r)) (t : Tables) (b : Bare lim t) {v : Result ⊤ Reason} (asked : v ≡ text_tests lim text)
+    (told : v ≡ Ok tt) (w : Desk) {z : Ended} (drawn : Laying lim r (desk_in t) w z) {p : Place} (ended : z ≡ E.Whole p)
     (top : ℕ) (fc : lim.clauses + 1 < top) (ft : 2 * lim.terms < top) (fl : lim.literals < top) (cursors-fit : 2 * lim.terms ≤ lim.clauses) where
   gives : Gives lim r (desk_in t) w p
   gives = subst (Laying lim r (desk_in t) w) ended drawn
@@ -53,7 +52,7 @@ module _ (lim : Limits) (text : List ℕ) (r : Reading) (sound : Sound lim (afte
   finish-can = can-finish lim t b f proper w p gives.laid top fc ft fl cursors-fit
 
   pub was-whole : {n : Counts} {y : Fixed} {m : Moving} → finishing n y m ≡ finished lim p cut bare
-      → ten (R.Accepted n) (lent w.names m.words y.starts y.literals y.occurrence_starts y.occurrences m.tallies.trues m.tallies.breaks
+      → ten (Ok n) (lent w.names m.words y.starts y.literals y.occurrence_starts y.occurrences m.tallies.trues m.tallies.breaks
       m.tallies.uncovered.list m.tallies.uncovered.places)
       ≡ ten_of (read_leaves lim t [] (after_tests lim text r))
   was-whole e = whole-leaves lim t b f proper w p gives.laid top fc ft fl cursors-fit e ∙ sym (ap (λ q. ten_of (read_leaves lim t [] q)) read_is)

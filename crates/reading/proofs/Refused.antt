@@ -1,13 +1,11 @@
 -- Tables that were cleared: a draft can be begun in them, and where a text is refused they are 0 still, or cleared again. Assumes nothing.
-use mathlib.Core.Path.{◌≡◌, ap, sym, ◌∙◌, subst}
+use mathlib.Core.Path.{◌≡◌, refl, ap, sym, ◌∙◌, subst}
 use mathlib.Core.List.{List, []}
 use Prim.Native.Nat.{ℕ}
 use native.Mathlib.Omega.{arith}
+use Rattle.std.specs.Prelude.{Result, Ok, Err, ⊤, is_ok}
 use Rattle.written.specs.declared.Fault.{Fault}
 use Rattle.written.specs.declared.Reason.{Reason}
-use Rattle.written.specs.declared.Read.TheVariants as R
-use Rattle.written.specs.declared.Tested.{Tested}
-use Rattle.written.specs.declared.Tested.TheVariants.{Passed, Failed}
 use Rattle.written.specs.Limits.{Limits}
 use Rattle.written.specs.Reasons.{fault}
 use Rattle.written.specs.Reading.{Reading, refused, after_tests}
@@ -15,6 +13,7 @@ use Rattle.written.specs.Tables.{Tables, lent, sizes, full_sizes}
 use Rattle.written.specs.Outcomes.{ten, ten_of, read_leaves}
 use Rattle.laws.proofs.Each.Table.{Names, Starts, Literals, Breaks, Places}
 use Rattle.laws.proofs.Holding.{full_at}
+use Rattle.laws.proofs.Tests.{not-both}
 use Rattle.reading_lines.specs.declared.Ended.{Ended}
 use Rattle.reading_lines.specs.declared.Ended.TheVariants as E
 use Rattle.reading_lines.specs.Drafting.{Desk}
@@ -27,14 +26,19 @@ use Rattle.reading_end.proofs.Bare.{bare-zero}
 use Rattle.reading_end.proofs.Whole.{wiped-back}
 use Rattle.reading.proofs.Texts.{failed-read, passed-read, passed-short, passed-closed}
 
+-- tests whose reason is told as something else are passed where that is none
+pub passed-if : {A E : Type 0} (v : Result ⊤ A) {w : Result ⊤ E} → is_ok w ≡ is_ok v → w ≡ Ok tt → v ≡ Ok tt
+passed-if (Ok x) same told = refl
+passed-if (Err e) same told = not-both (ap is_ok told) same
+
 -- the text's bytes come to q, and it fails a test: nothing is written
-failed-leaves : (lim : Limits) (text : List ℕ) (q : Reading) (t : Tables) → Bare lim t → {r : Reason} → text_tests lim text ≡ Failed r
-    → ten (R.Refused (fault r)) t ≡ ten_of (read_leaves lim t [] (after_tests lim text q))
+failed-leaves : (lim : Limits) (text : List ℕ) (q : Reading) (t : Tables) → Bare lim t → {r : Reason} → text_tests lim text ≡ Err r
+    → ten (Err (fault r)) t ≡ ten_of (read_leaves lim t [] (after_tests lim text q))
 unfolding read_leaves
-failed-leaves lim text q t b {r} h = ap (ten (R.Refused (fault r))) (sym b.zero) ∙ sym (ap (λ x. ten_of (read_leaves lim t [] x)) (failed-read lim text q h))
+failed-leaves lim text q t b {r} h = ap (ten (Err (fault r))) (sym b.zero) ∙ sym (ap (λ x. ten_of (read_leaves lim t [] x)) (failed-read lim text q h))
 
 -- cleared tables are tables that a draft can be made in
-bare_lay : (lim : Limits) (text : List ℕ) (q : Reading) (t : Tables) → Bare lim t → text_tests lim text ≡ Passed → CanLay lim text (desk_in t)
+bare_lay : (lim : Limits) (text : List ℕ) (q : Reading) (t : Tables) → Bare lim t → text_tests lim text ≡ Ok tt → CanLay lim text (desk_in t)
 unfolding full_sizes sizes
 bare_lay lim text q t b passed =
     record {
@@ -51,29 +55,29 @@ bare_lay lim text q t b passed =
 
 -- a draft in them is refused, and what it used is cleared
 refused-leaves : (lim : Limits) (t : Tables) → Bare lim t → {x : Reading} {e : Fault} → x ≡ refused e → (w : Desk) → PastOn lim (desk_in t) w → {d : Desk} → d ≡ wiped lim w
-    → ten (R.Refused e) (lent d.names t.values d.starts d.literals t.occurrence_starts t.occurrences t.trues d.stamps t.uncovered d.slots)
+    → ten (Err e) (lent d.names t.values d.starts d.literals t.occurrence_starts t.occurrences t.trues d.stamps t.uncovered d.slots)
     ≡ ten_of (read_leaves lim t [] x)
 unfolding read_leaves
 refused-leaves lim t b {x} {e} h w past {d} q =
     let r = q ∙ wiped-back lim t b w past in
     let u : lent d.names t.values d.starts d.literals t.occurrence_starts t.occurrences t.trues d.stamps t.uncovered d.slots ≡ t =
     (λ i. lent (r i).names t.values (r i).starts (r i).literals t.occurrence_starts t.occurrences t.trues (r i).stamps t.uncovered (r i).slots) in
-    ap (ten (R.Refused e)) (u ∙ sym b.zero) ∙ sym (ap (λ y. ten_of (read_leaves lim t [] y)) h)
+    ap (ten (Err e)) (u ∙ sym b.zero) ∙ sym (ap (λ y. ten_of (read_leaves lim t [] y)) h)
 
 -- ---- put together from what the calls gave, as they gave it
 
 -- v was answered to the tests of the text, whose bytes come to q
-module _ (lim : Limits) (text : List ℕ) (q : Reading) (t : Tables) (b : Bare lim t) {v : Tested} (asked : v ≡ text_tests lim text) where
-  pub was-failed : {r : Reason} → v ≡ Failed r → ten (R.Refused (fault r)) t ≡ ten_of (read_leaves lim t [] (after_tests lim text q))
+module _ (lim : Limits) (text : List ℕ) (q : Reading) (t : Tables) (b : Bare lim t) {v : Result ⊤ Reason} (asked : v ≡ text_tests lim text) where
+  pub was-failed : {r : Reason} → v ≡ Err r → ten (Err (fault r)) t ≡ ten_of (read_leaves lim t [] (after_tests lim text q))
   was-failed h = failed-leaves lim text q t b (sym asked ∙ h)
 
-  module _ (told : v ≡ Passed) where
+  module _ (told : v ≡ Ok tt) where
     pub can_lay : CanLay lim text (desk_in t)
     can_lay = bare_lay lim text q t b (sym asked ∙ told)
 
     -- the draft ended by z, in the tables w
     pub was-refused : (w : Desk) {z : Ended} {e : Fault} → Laying lim q (desk_in t) w z → z ≡ E.Refused e → {d : Desk} → d ≡ wiped lim w
-        → ten (R.Refused e) (lent d.names t.values d.starts d.literals t.occurrence_starts t.occurrences t.trues d.stamps t.uncovered d.slots)
+        → ten (Err e) (lent d.names t.values d.starts d.literals t.occurrence_starts t.occurrences t.trues d.stamps t.uncovered d.slots)
         ≡ ten_of (read_leaves lim t [] (after_tests lim text q))
     was-refused w drawn ended cleared =
         let d = subst (Laying lim q (desk_in t) w) ended drawn in

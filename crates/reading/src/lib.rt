@@ -12,7 +12,7 @@ ghost use Rattle.reading_end.specs.Bare.{Bare};
 
 use reading_lines::Ended;
 use tables::Tables;
-use written::{Fault, Form, Read, Reason, Tested};
+use written::{Counts, Fault, Form, Reason};
 
 // A text read into full tables of 0: they are 0 again where it is refused.
 fn read_cleared(
@@ -28,7 +28,7 @@ fn read_cleared(
     breaks: &mut [u16],
     uncovered: &mut [u16],
     places: &mut [u16],
-) -> Read
+) -> Result<Counts, Fault>
     requires { Bare narrow (lent_at names.old values.old starts.old literals.old occurrence_starts.old occurrences.old trues.old breaks.old
         uncovered.old places.old) }
     ensures { ten result (lent_at names.new values.new starts.new literals.new occurrence_starts.new occurrences.new trues.new breaks.new
@@ -37,19 +37,11 @@ fn read_cleared(
         breaks.old uncovered.old places.old)
         [] (read_as form narrow text.now)) }
 {
-    match reading_end::verdict(text) {
-        Tested::Failed(reason) => {
-            return Read::Refused(Fault {
-                reason: reason,
-                line: 0,
-            });
-        }
-        Tested::Passed => {}
-    }
+    reading_end::verdict(text).map_err(|reason| Fault { reason, line: 0 })?;
     match reading_draft::draft(form, text, names, starts, literals, breaks, places) {
         Ended::Refused(fault) => {
             reading_end::clear_draft(names, starts, literals, breaks, places);
-            return Read::Refused(fault);
+            return Err(fault);
         }
         Ended::Whole(p) => {
             let n = reading_end::finish(
@@ -64,7 +56,7 @@ fn read_cleared(
                 uncovered,
                 places,
             );
-            return Read::Accepted(n);
+            return Ok(n);
         }
     }
 }
@@ -83,7 +75,7 @@ pub fn read_full(
     breaks: &mut [u16],
     uncovered: &mut [u16],
     places: &mut [u16],
-) -> Read
+) -> Result<Counts, Fault>
     requires { are_full narrow (lent_at names.old values.old starts.old literals.old occurrence_starts.old occurrences.old trues.old breaks.old
         uncovered.old places.old) ≡ true }
     ensures { ten result (lent_at names.new values.new starts.new literals.new occurrence_starts.new occurrences.new trues.new breaks.new
@@ -125,7 +117,7 @@ pub fn read(
     uncovered: &mut [u16],
     places: &mut [u16],
     marks: &mut [u8],
-) -> Read
+) -> Result<Counts, Fault>
     ensures { leaves result (lent_at names.new values.new starts.new literals.new occurrence_starts.new occurrences.new trues.new breaks.new
         uncovered.new places.new) marks.new
         ≡ read_into narrow (read_as form narrow text.now)
@@ -145,7 +137,7 @@ pub fn read(
         places,
     };
     if !tables.all_full(marks) {
-        return Read::Refused(Fault {
+        return Err(Fault {
             reason: Reason::TableTooShort,
             line: 0,
         });

@@ -5,23 +5,23 @@ use mathlib.Core.List.{List}
 use Prim.Native.Nat.{ℕ, ◌≤◌, ◌<◌}
 use lib.ListN.{length}
 use borrow.Author.Tests.{lt-ltb, le-ltb}
+use Rattle.std.specs.Prelude.{Ok, Err}
 use Rattle.scan.specs.Scan.{open_end}
 use Rattle.written.specs.declared.Reason.TheVariants.{TextTooLong, TextCut}
 use Rattle.written.specs.Limits.{Limits}
-use Rattle.written.specs.declared.Tested.TheVariants.{Passed, Failed}
 use Rattle.reading_end.specs.Tests.{text_tests}
 
 module _ (lim : Limits) (text : List ℕ) where
-  pub tests-long : lim.text < length text → Failed TextTooLong ≡ text_tests lim text
+  pub tests-long : lim.text < length text → Err TextTooLong ≡ text_tests lim text
   unfolding text_tests
   tests-long long = rw (lt-ltb lim.text (length text) long) refl
 
   -- cut was answered to whether the text ends inside a line
   module _ (short : length text ≤ lim.text) {cut : Bool} (asked : cut ≡ open_end text) where
-    pub tests_open : cut ≡ true → Failed TextCut ≡ text_tests lim text
+    pub tests_open : cut ≡ true → Err TextCut ≡ text_tests lim text
     unfolding text_tests
     tests_open h = rw (le-ltb lim.text (length text) short, sym asked ∙ h) refl
 
-    pub tests-passed : cut ≡ false → Passed ≡ text_tests lim text
+    pub tests-passed : cut ≡ false → Ok tt ≡ text_tests lim text
     unfolding text_tests
     tests-passed h = rw (le-ltb lim.text (length text) short, sym asked ∙ h) refl

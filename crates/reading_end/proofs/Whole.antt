@@ -4,8 +4,8 @@ use mathlib.Core.List.{List, [], ◌++◌, flatten}
 use Prim.Native.Nat.{ℕ, ◌+◌, ◌*◌, ◌≤◌, ◌<◌}
 use native.Mathlib.Omega.{arith}
 use lib.ListN.{length, drop}
+use Rattle.std.specs.Prelude.{Ok}
 use Rattle.written.specs.declared.Counts.{Counts}
-use Rattle.written.specs.declared.Read.TheVariants as R
 use Rattle.written.specs.Lists.{padded}
 use Rattle.written.specs.Limits.{Limits}
 use Rattle.written.specs.Clauses.{File, State, afresh, as_read}
@@ -166,11 +166,11 @@ module _ (lim : Limits) (t : Tables) (b : Bare lim t) (f : File) (proper : Prope
       ended : finishing r y v ≡ finishing (counts_of s) (fixed_in h) (moving_in (length s.uncovered) h)
       ended = e ∙ finished-is
 
-      pub whole-leaves : ten (R.Accepted r) (lent w.names v.words y.starts y.literals y.occurrence_starts y.occurrences v.tallies.trues
+      pub whole-leaves : ten (Ok r) (lent w.names v.words y.starts y.literals y.occurrence_starts y.occurrences v.tallies.trues
           v.tallies.breaks v.tallies.uncovered.list v.tallies.uncovered.places) ≡ ten_of (read_leaves lim t [] (accepted f))
       unfolding read_leaves
       whole-leaves =
           let g = ended in
           let n = names_are in
-          λ i. ten (R.Accepted (g i).counts) (lent (n i) (g i).moved.words (g i).clauses.starts (g i).clauses.literals (g i).clauses.occurrence_starts
+          λ i. ten (Ok (g i).counts) (lent (n i) (g i).moved.words (g i).clauses.starts (g i).clauses.literals (g i).clauses.occurrence_starts
           (g i).clauses.occurrences (g i).moved.tallies.trues (g i).moved.tallies.breaks (g i).moved.tallies.uncovered.list (g i).moved.tallies.uncovered.places)

@@ -12,19 +12,19 @@ ghost use Rattle.reading_end.specs.Clearing.{wiped, others_at, wiped_others, res
 ghost use Rattle.reading_end.specs.Finishing.{finishing, finished, CanFinish};
 
 use reading_lines::Place;
-use written::{Counts, Reason, Tested};
+use written::{Counts, Reason};
 
 // The tests of a text as a whole, in their order: 2, 3.
-pub fn verdict(text: &[u8]) -> Tested
+pub fn verdict(text: &[u8]) -> Result<(), Reason>
     ensures { result ≡ text_tests narrow text.now }
 {
     if text.len() > 65536 {
-        return Tested::Failed(Reason::TextTooLong);
+        return Err(Reason::TextTooLong);
     }
     if scan::cut_off(text) {
-        return Tested::Failed(Reason::TextCut);
+        return Err(Reason::TextCut);
     }
-    Tested::Passed
+    Ok(())
 }
 
 // ---- clearing

@@ -8,11 +8,11 @@ use native.Mathlib.Omega.{arith}
 use lib.ListN.{length, take, drop}
 use borrow.Author.Tests.{leb-true}
 use borrow.Author.Rules.{part_to_end}
+use Rattle.std.specs.Prelude.{Err}
 use Rattle.written.specs.declared.Form.{Form}
 use Rattle.written.specs.declared.Order.{Order}
 use Rattle.written.specs.declared.Fault.{Fault}
 use Rattle.written.specs.declared.Sheet.{Sheet}
-use Rattle.written.specs.declared.Ordered.TheVariants as O
 use Rattle.written.specs.declared.RunAnswer.{RunAnswer}
 use Rattle.written.specs.Limits.{Limits}
 use Rattle.written.specs.Reading.{Reading, accepted, refused}
@@ -85,7 +85,7 @@ module _ (form : Form) (lim : Limits) (input : List ℕ) (t : Tables) (ms b : Li
 
     pub sheet-ends : {r : ℕ} {out : List ℕ} → page r out ≡ put (refusal_as form e) (page 0 b) → ended r t ms out ≡ ran_as form lim t ms b (course_as form lim input)
     unfolding said_as tables_after marks_after
-    sheet-ends written = ended_by form lim t ms b (unbegun (O.Refused e)) refl refl written ∙ ap (ran_as form lim t ms b) (sym (known (Refused e) answer told).0)
+    sheet-ends written = ended_by form lim t ms b (unbegun (Err e)) refl refl written ∙ ap (ran_as form lim t ms b) (sym (known (Refused e) answer told).0)
 
   -- a text that is to be read
   module _ (s : Sheet) {a : Outset} (answer : a ≡ outset_of lim input) (told : a ≡ Begins s) where

@@ -9,7 +9,7 @@ ghost use Rattle.written.specs.Competition.{refusal_as};
 ghost use Rattle.pages.specs.Pages.{page, put, CanPut};
 ghost use Rattle.running_forms.specs.Reporting.{report_by, CanReportBy};
 
-use written::{Fault, Form, Walked};
+use written::{Fault, Form, Refusal, Walked};
 
 // A refusal's lines.
 pub fn refusal(form: Form, out: &mut [u8], e: Fault) -> usize
@@ -23,7 +23,13 @@ pub fn refusal(form: Form, out: &mut [u8], e: Fault) -> usize
 }
 
 // What a walk's answer prints.
-pub fn report(form: Form, out: &mut [u8], answer: Walked, names: &[u64], values: &[u32]) -> usize
+pub fn report(
+    form: Form,
+    out: &mut [u8],
+    answer: Result<Walked, Refusal>,
+    names: &[u64],
+    values: &[u32],
+) -> usize
     requires { CanReportBy form narrow answer names.now values.now (page 0 out.old) }
     ensures { page result out.new ≡ put (report_by form narrow answer names.now values.now) (page 0 out.old) }
 {

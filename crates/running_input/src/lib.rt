@@ -6,9 +6,9 @@ ghost use Rattle.std.specs.Prelude.{◌≡◌};
 ghost use Rattle.written.specs.Limits.{narrow};
 ghost use Rattle.running_input.specs.Outsets.{outset_of};
 
-use written::{Fault, Ordered, Reason, Sheet};
+use written::{Fault, Reason, Sheet};
 
-// How a run sets out.
+// How a run sets out: three ways and no Result, since too long an input leaves tables of 0 and a refused sheet leaves them as they were.
 #[derive(Clone, Copy)]
 pub enum Outset {
     Long(Fault),
@@ -27,7 +27,7 @@ pub fn set_out(input: &[u8]) -> Outset
         });
     }
     match running_sheet::sheet(input) {
-        Ordered::Refused(e) => Outset::Refused(e),
-        Ordered::Accepted(s) => Outset::Begins(s),
+        Err(e) => Outset::Refused(e),
+        Ok(s) => Outset::Begins(s),
     }
 }

@@ -1,10 +1,11 @@
 -- The lines of an answer, by the names and the value words that stand in the tables. Assumes nothing.
-use Rattle.std.specs.Prelude.{ℕ, ◌≤◌, List, ◌++◌, length, take}
+use Rattle.std.specs.Prelude.{ℕ, ◌≤◌, List, ◌++◌, length, take, Result, Ok, Err}
 use Rattle.words.specs.Words.{bit_at, trues}
 use Rattle.scan.specs.Text.{bytes}
+use Rattle.written.specs.declared.Refusal.{Refusal}
 use Rattle.written.specs.declared.Tour.{Tour}
 use Rattle.written.specs.declared.Walked.{Walked}
-use Rattle.written.specs.declared.Walked.TheVariants.{Found, GaveUp, Refused}
+use Rattle.written.specs.declared.Walked.TheVariants.{Found, GaveUp}
 use Rattle.written.specs.Lists.{list_of}
 use Rattle.written.specs.Limits.{Limits}
 use Rattle.written.specs.Reasons.{fault}
@@ -39,17 +40,17 @@ unfoldable pub gave_up_lines : Tour → List ℕ
 gave_up_lines e = tour_lines (line "result=" (bytes "gaveup")) e ++ line "chosen=" (bytes "0") ++ line "answer=" (bytes "~?")
 
 -- what an answer prints; the line of a refused walk is 0
-unfoldable pub report_in : Limits → Walked → List ℕ → List ℕ → List ℕ
-report_in lim (Found e) names words = found_lines lim e names words
-report_in lim (GaveUp e) names words = gave_up_lines e
-report_in lim (Refused e) names words = refusal (fault e.reason)
+unfoldable pub report_in : Limits → Result Walked Refusal → List ℕ → List ℕ → List ℕ
+report_in lim (Ok (Found e)) names words = found_lines lim e names words
+report_in lim (Ok (GaveUp e)) names words = gave_up_lines e
+report_in lim (Err e) names words = refusal (fault e.reason)
 
 -- how many names a report asks for
-abbrev pub names_in : Walked → ℕ
-names_in (Found e) = e.counts.terms
-names_in (GaveUp e) = 0
-names_in (Refused e) = 0
+abbrev pub names_in : Result Walked Refusal → ℕ
+names_in (Ok (Found e)) = e.counts.terms
+names_in (Ok (GaveUp e)) = 0
+names_in (Err e) = 0
 
-pub record CanReport (lim : Limits) (a : Walked) (names words : List ℕ) (p : Page) : Type 0 where
+pub record CanReport (lim : Limits) (a : Result Walked Refusal) (names words : List ℕ) (p : Page) : Type 0 where
   pub named : names_in a ≤ length names
   pub fits : CanPut (report_in lim a names words) p

@@ -9,7 +9,7 @@ ghost use Rattle.written.specs.Printed.{refusal};
 ghost use Rattle.pages.specs.Pages.{page, put, CanPut};
 ghost use Rattle.running_report.specs.Reporting.{answer_in, CanName, tour_lines, found_lines, CanFind, gave_up_lines, report_in, CanReport};
 
-use written::{Fault, Tour, Walked};
+use written::{Fault, Refusal, Tour, Walked};
 
 // Every term in order, one space between.
 fn put_answer(out: &mut [u8], at: usize, terms: usize, names: &[u64], values: &[u32]) -> usize
@@ -74,14 +74,19 @@ fn gave_up(out: &mut [u8], tour: Tour) -> usize
 }
 
 // What a walk's answer prints; a refused one has no line.
-pub fn report(out: &mut [u8], answer: Walked, names: &[u64], values: &[u32]) -> usize
+pub fn report(
+    out: &mut [u8],
+    answer: Result<Walked, Refusal>,
+    names: &[u64],
+    values: &[u32],
+) -> usize
     requires { CanReport narrow answer names.now values.now (page 0 out.old) }
     ensures { page result out.new ≡ put (report_in narrow answer names.now values.now) (page 0 out.old) }
 {
     match answer {
-        Walked::Found(tour) => found(out, tour, names, values),
-        Walked::GaveUp(tour) => gave_up(out, tour),
-        Walked::Refused(e) => {
+        Ok(Walked::Found(tour)) => found(out, tour, names, values),
+        Ok(Walked::GaveUp(tour)) => gave_up(out, tour),
+        Err(e) => {
             let reason = e.reason;
             refusal(
                 out,

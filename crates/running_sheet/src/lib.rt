@@ -3,11 +3,12 @@
 #![tactic(auto)]
 
 ghost use Rattle.std.specs.Prelude.{◌≡◌, ◌+◌, ◌^◌, ◌<◌};
+ghost use Rattle.written.specs.Reasons.{fault_at};
 ghost use Rattle.written.specs.Sheet.{sheet_of};
 ghost use Rattle.laws.specs.Sheets.{four_lines, in_mode};
-ghost use Rattle.running_sheet.specs.Lines.{range, line_of, refused_at};
+ghost use Rattle.running_sheet.specs.Lines.{range, line_of};
 
-use written::{Fault, Order, Ordered, Reason, Sheet};
+use written::{Fault, Order, Reason, Sheet};
 
 // A line's number, and how many bytes it takes with its byte 10.
 #[derive(Clone, Copy)]
@@ -16,83 +17,58 @@ struct Entry {
     size: usize,
 }
 
-// What a line comes to.
-#[derive(Clone, Copy)]
-enum Verdict {
-    Taken(Entry),
-    Faulty(Reason),
+// The fault of line i of the sheet.
+fn fault(i: u32, reason: Reason) -> Fault
+    ensures { result ≡ fault_at i reason }
+{
+    Fault {
+        reason: reason,
+        line: i,
+    }
 }
 
-// The first line of the rest: its form, then its range.
-fn line(rest: &[u8], key: &[u8], least: u32, most: u32) -> Verdict
-    ensures { result ≡ line_of key.now (range least most) rest.now }
+// Line i of the sheet, the first of the rest: its form, then its range.
+fn line(i: u32, rest: &[u8], key: &[u8], least: u32, most: u32) -> Result<Entry, Fault>
+    ensures { result ≡ line_of i key.now (range least most) rest.now }
 {
     let end = scan::line_end(rest, 0);
     if rest.len() <= end {
-        return Verdict::Faulty(Reason::SheetForm);
+        return Err(fault(i, Reason::SheetForm));
     }
     if !digits::begins(rest, key) {
-        return Verdict::Faulty(Reason::SheetForm);
+        return Err(fault(i, Reason::SheetForm));
     }
     let from = key.len();
     if end < from {
-        return Verdict::Faulty(Reason::SheetForm);
+        return Err(fault(i, Reason::SheetForm));
     }
     if !digits::is_number(&rest[from..end]) {
-        return Verdict::Faulty(Reason::SheetForm);
+        return Err(fault(i, Reason::SheetForm));
     }
     let n = digits::value(&rest[from..end]);
     if n < (least as u64) {
-        return Verdict::Faulty(Reason::OutOfRange);
+        return Err(fault(i, Reason::OutOfRange));
     }
     if (most as u64) < n {
-        return Verdict::Faulty(Reason::OutOfRange);
+        return Err(fault(i, Reason::OutOfRange));
     }
-    Verdict::Taken(Entry {
+    Ok(Entry {
         number: n as u32,
         size: end + 1,
     })
 }
 
-// The refusal of line i of the sheet.
-fn refused(i: u32, line: Verdict) -> Ordered
-    ensures { result ≡ refused_at i line }
-{
-    match line {
-        Verdict::Faulty(reason) => Ordered::Refused(Fault {
-            reason: reason,
-            line: i,
-        }),
-        Verdict::Taken(e) => Ordered::Refused(Fault {
-            reason: Reason::SheetForm,
-            line: i,
-        }),
-    }
-}
-
 // The four lines, the first faulty one named; and where what follows them begins.
-fn numbers(input: &[u8]) -> Ordered
+fn numbers(input: &[u8]) -> Result<Sheet, Fault>
     ensures { result ≡ four_lines input.now }
 {
-    let first = line(input, b"seed=", 1, 4294967295);
-    let Verdict::Taken(s) = first else {
-        return refused(1, first);
-    };
+    let s = line(1, input, b"seed=", 1, 4294967295)?;
     let to_flips = s.size;
-    let second = line(&input[to_flips..], b"flips=", 0, 100000);
-    let Verdict::Taken(f) = second else {
-        return refused(2, second);
-    };
+    let f = line(2, &input[to_flips..], b"flips=", 0, 100000)?;
     let to_walks = to_flips + f.size;
-    let third = line(&input[to_walks..], b"walks=", 1, 1000);
-    let Verdict::Taken(w) = third else {
-        return refused(3, third);
-    };
+    let w = line(3, &input[to_walks..], b"walks=", 1, 1000)?;
     let to_bias = to_walks + w.size;
-    let fourth = line(&input[to_bias..], b"bias=", 0, 1000);
-    let Verdict::Taken(b) = fourth else {
-        return refused(4, fourth);
-    };
+    let b = line(4, &input[to_bias..], b"bias=", 0, 1000)?;
     let order = Order {
         seed: s.number,
         flips: f.number,
@@ -100,7 +76,7 @@ fn numbers(input: &[u8]) -> Ordered
         bias: b.number,
         even: 0,
     };
-    Ordered::Accepted(Sheet {
+    Ok(Sheet {
         order: order,
         at: (to_bias + b.size) as u32,
     })
@@ -111,37 +87,23 @@ fn even_from(s: Sheet, size: u32) -> Sheet
     requires { s.at + size < 2 ^ 32 }
     ensures { result ≡ in_mode s 1 (s.at + size) }
 {
-    let o = s.order;
-    let order = Order {
-        seed: o.seed,
-        flips: o.flips,
-        walks: o.walks,
-        bias: o.bias,
-        even: 1,
-    };
     Sheet {
-        order: order,
+        order: Order { even: 1, ..s.order },
         at: s.at + size,
     }
 }
 
 // The whole sheet: a fifth line is exactly `choice=even`, or there is none.
-pub fn sheet(input: &[u8]) -> Ordered
+pub fn sheet(input: &[u8]) -> Result<Sheet, Fault>
     ensures { result ≡ sheet_of input.now }
 {
-    let four = numbers(input);
-    let Ordered::Accepted(s) = four else {
-        return four;
-    };
+    let s = numbers(input)?;
     let rest = &input[s.at as usize..];
     if !digits::begins(rest, b"choice=") {
-        return Ordered::Accepted(s);
+        return Ok(s);
     }
     if !digits::begins(rest, b"choice=even\n") {
-        return Ordered::Refused(Fault {
-            reason: Reason::SheetForm,
-            line: 5,
-        });
+        return Err(fault(5, Reason::SheetForm));
     }
-    Ordered::Accepted(even_from(s, 12))
+    Ok(even_from(s, 12))
 }

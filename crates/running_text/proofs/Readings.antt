@@ -6,12 +6,11 @@ use mathlib.Core.Bool.{true≢false}
 use mathlib.Core.List.{List, []}
 use native.Mathlib.Omega.{arith}
 use lib.ListN.{length}
+use Rattle.std.specs.Prelude.{Result, Ok, Err}
 use Rattle.written.specs.declared.Counts.{Counts}
 use Rattle.written.specs.declared.Order.{Order}
 use Rattle.written.specs.declared.Fault.{Fault}
 use Rattle.written.specs.declared.Form.{Form}
-use Rattle.written.specs.declared.Read.{Read}
-use Rattle.written.specs.declared.Read.TheVariants as R
 use Rattle.written.specs.Limits.{Limits}
 use Rattle.written.specs.Clauses.{File, State, as_read, afresh}
 use Rattle.written.specs.Reading.{Reading, accepted, refused}
@@ -35,7 +34,7 @@ use Rattle.running_text.specs.Running.{ended, CanRead, CanWalk}
 use Rattle.running_text.proofs.Ends.{ended_by, refusal-room}
 
 -- a reading r that answered a and left u, under marks of 0
-module _ (form : Form) (lim : Limits) (o : Order) (r : Reading) (t : Tables) (ms b : List ℕ) (can : CanRead lim o t ms b) {a : Read} {u : Tables}
+module _ (form : Form) (lim : Limits) (o : Order) (r : Reading) (t : Tables) (ms b : List ℕ) (can : CanRead lim o t ms b) {a : Result Counts Fault} {u : Tables}
     (read : ten a u ≡ ten_of (read_leaves lim t [] r)) where
   whole : leaves a u (unmarked lim ms) ≡ read_into lim r t ms
   whole = ten_into lim r t ms can.run.full read
@@ -49,7 +48,7 @@ module _ (form : Form) (lim : Limits) (o : Order) (r : Reading) (t : Tables) (ms
   marks : ms ≡ (read_into lim r t ms).marks
   marks = sym can.clear ∙ the_marks whole
 
-  module _ (e : Fault) (told : a ≡ R.Refused e) where
+  module _ (e : Fault) (told : a ≡ Err e) where
     abbrev Left : Type 0
     Left = (r ≡ refused e) × Zeroed lim t ms e (read_into lim r t ms).tables (read_into lim r t ms).marks
 
@@ -68,7 +67,7 @@ module _ (form : Form) (lim : Limits) (o : Order) (r : Reading) (t : Tables) (ms
     refused-ends written =
         rw emptied.0 (ended_by form lim t ms b (after_reading o (refused e)) (tables ∙ emptied.1.left) (sym can.clear) written)
 
-  module _ (sound : Sound lim r) (n : Counts) (told : a ≡ R.Accepted n) where
+  module _ (sound : Sound lim r) (n : Counts) (told : a ≡ Ok n) where
     abbrev file : File
     file = (into_accepted lim r t ms sound n (sym answer ∙ told)).0
 

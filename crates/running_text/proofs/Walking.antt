@@ -5,6 +5,8 @@ use mathlib.Core.Bool.{true}
 use mathlib.Core.List.{List, []}
 use native.Mathlib.Omega.{arith}
 use lib.ListN.{length, get_or}
+use Rattle.std.specs.Prelude.{Result}
+use Rattle.written.specs.declared.Refusal.{Refusal}
 use Rattle.written.specs.declared.Counts.{Counts}
 use Rattle.written.specs.declared.Form.{Form}
 use Rattle.written.specs.declared.Order.{Order}
@@ -34,7 +36,7 @@ use Rattle.running_forms.proofs.Reported.{form-reported}
 use Rattle.running_text.proofs.Ends.{ended_by, fits}
 
 -- an answer a and tables u that the walks have given
-module _ (form : Form) (lim : Limits) (o : Order) (n : Counts) (t : Tables) (ms b : List ℕ) (can : CanWalk lim o n t ms b) {a : Walked} {u : Tables}
+module _ (form : Form) (lim : Limits) (o : Order) (n : Counts) (t : Tables) (ms b : List ℕ) (can : CanWalk lim o n t ms b) {a : Result Walked Refusal} {u : Tables}
     (made : leaves a u ms ≡ walk_made lim o n t ms) where
   answer : a ≡ (walk_made lim o n t ms).answer
   answer = the_answer made
@@ -62,12 +64,12 @@ module _ (form : Form) (lim : Limits) (o : Order) (n : Counts) (t : Tables) (ms 
       (λ k l. ap (λ (xs : List ℕ). get_or xs k 0) (sym can.clear) ∙ unmarked_get lim ms k (omega (arith, proper.few-terms)))
 
   lines : report_by form lim a u.names u.values ≡ report_as form outcome
-  lines = ap₂ (λ (x : Walked) (w : Tables). report_by form lim x w.names w.values) answer tables ∙ form-reported form lim outcome t ms valid full
+  lines = ap₂ (λ (x : Result Walked Refusal) (w : Tables). report_by form lim x w.names w.values) answer tables ∙ form-reported form lim outcome t ms valid full
 
   pub walk_reports : lim.terms < 10 ^ 7 → CanReportBy form lim a u.names u.values (page 0 b)
   walk_reports few =
       record {
-        named = subst₂ (λ (x : Walked) (w : Tables). names_in x ≤ length w.names) (sym answer) (sym tables) (report-named lim outcome t ms valid full);
+        named = subst₂ (λ (x : Result Walked Refusal) (w : Tables). names_in x ≤ length w.names) (sym answer) (sym tables) (report-named lim outcome t ms valid full);
         fits = subst (λ (bs : List ℕ). CanPut bs (page 0 b)) (sym lines)
             (fits lim (report_as form outcome) b (form_walked form lim o ms (file_in n t) (ranged o can.allowed.range) proper few) can.room);
       }

@@ -12,7 +12,7 @@ ghost use Rattle.written.specs.Walk.{walk_over};
 ghost use Rattle.written.specs.Program.{walked, after_reading, ran_as};
 ghost use Rattle.running_text.specs.Running.{ended, CanRead, CanWalk};
 
-use written::{Counts, Form, Order, Read};
+use written::{Counts, Form, Order};
 
 // The walks over tables that have just been read, and their report.
 fn walk_on(
@@ -57,7 +57,7 @@ fn walk_on(
         places,
         marks,
     );
-    running_forms::report(form, out, answer, names, values)
+    running_forms::report(form, out, Ok(answer), names, values)
 }
 
 // The text read, then walked over.
@@ -101,8 +101,8 @@ pub fn read_on(
         uncovered,
         places,
     ) {
-        Read::Refused(e) => running_forms::refusal(form, out, e),
-        Read::Accepted(n) => walk_on(
+        Err(e) => running_forms::refusal(form, out, e),
+        Ok(n) => walk_on(
             form,
             order,
             n,

@@ -1,10 +1,11 @@
 -- The competition's lines, by the value words that stand in the tables. Assumes nothing.
-use Rattle.std.specs.Prelude.{ℕ, suc, ◌+◌, ◌-◌, cond, List, ◌++◌, ltb}
+use Rattle.std.specs.Prelude.{ℕ, suc, ◌+◌, ◌-◌, cond, List, ◌++◌, ltb, Result, Ok, Err}
 use Rattle.words.specs.Words.{bit_at}
+use Rattle.written.specs.declared.Refusal.{Refusal}
 use Rattle.written.specs.declared.Form.TheVariants.{Numbered}
 use Rattle.written.specs.declared.Tour.{Tour}
 use Rattle.written.specs.declared.Walked.{Walked}
-use Rattle.written.specs.declared.Walked.TheVariants.{Found, GaveUp, Refused}
+use Rattle.written.specs.declared.Walked.TheVariants.{Found, GaveUp}
 use Rattle.written.specs.Lists.{list_from, list_of}
 use Rattle.written.specs.Reasons.{fault}
 use Rattle.written.specs.Printed.{line}
@@ -28,7 +29,7 @@ unfoldable pub up_lines : Tour → List ℕ
 up_lines e = tour_told e.walks e.flips ++ unknown
 
 -- what an answer prints; the line of a refused walk is 0
-unfoldable pub competed_in : Walked → List ℕ → List ℕ
-competed_in (Found e) words = found_values e words
-competed_in (GaveUp e) words = up_lines e
-competed_in (Refused e) words = refusal_as Numbered (fault e.reason)
+unfoldable pub competed_in : Result Walked Refusal → List ℕ → List ℕ
+competed_in (Ok (Found e)) words = found_values e words
+competed_in (Ok (GaveUp e)) words = up_lines e
+competed_in (Err e) words = refusal_as Numbered (fault e.reason)

@@ -11,7 +11,7 @@ ghost use Rattle.written.specs.Competition.{signed_number, value_lines, tour_tol
 ghost use Rattle.pages.specs.Pages.{page, put, CanPut};
 ghost use Rattle.running_values.specs.Valuing.{line_in, line_end, found_values, up_lines, competed_in};
 
-use written::{Fault, Tour, Walked};
+use written::{Fault, Refusal, Tour, Walked};
 
 // A variable's number, minus before one at 0.
 fn put_signed(out: &mut [u8], at: usize, value: u32, number: u32) -> usize
@@ -109,14 +109,14 @@ pub fn refusal(out: &mut [u8], e: Fault) -> usize
 }
 
 // What a walk's answer prints; a refused one has no line.
-pub fn report(out: &mut [u8], answer: Walked, values: &[u32]) -> usize
+pub fn report(out: &mut [u8], answer: Result<Walked, Refusal>, values: &[u32]) -> usize
     requires { CanPut (competed_in answer values.now) (page 0 out.old) }
     ensures { page result out.new ≡ put (competed_in answer values.now) (page 0 out.old) }
 {
     match answer {
-        Walked::Found(tour) => found(out, tour, values),
-        Walked::GaveUp(tour) => gave_up(out, tour),
-        Walked::Refused(e) => {
+        Ok(Walked::Found(tour)) => found(out, tour, values),
+        Ok(Walked::GaveUp(tour)) => gave_up(out, tour),
+        Err(e) => {
             let reason = e.reason;
             refusal(
                 out,

@@ -2,14 +2,16 @@
 use Prim.Native.Nat.{ℕ}
 use mathlib.Core.Path.{refl, ap}
 use mathlib.Core.List.{List}
+use Rattle.std.specs.Prelude.{Result, Ok, Err}
 use Rattle.machine.specs.Uncovered.{Uncovered}
 use Rattle.machine.specs.Tallies.{Tallies}
 use Rattle.machine.specs.Moving.{Moving}
+use Rattle.written.specs.declared.Refusal.{Refusal}
+use Rattle.written.specs.declared.Fault.{Fault}
 use Rattle.written.specs.declared.Counts.{Counts}
-use Rattle.written.specs.declared.Read.{Read}
-use Rattle.written.specs.declared.Flipped.{Flipped}
-use Rattle.written.specs.declared.Flipped.TheVariants as F
-use Rattle.written.specs.Outcomes.{Ten}
+use Rattle.written.specs.declared.Walked.{Walked}
+use Rattle.written.specs.declared.Walked.TheVariants.{GaveUp}
+use Rattle.written.specs.Outcomes.{Ten, Leaves}
 use Rattle.walking_choice.specs.declared.Picked.{Picked}
 use Rattle.walking_choice.specs.Choosing.{Lowest}
 use Rattle.walking_steps.specs.declared.At.{At}
@@ -24,7 +26,6 @@ use Rattle.written.specs.Drawing.{Pick}
 use Rattle.written.specs.Program.{Ran}
 use Rattle.settled.specs.Outcomes.{Public, Inner}
 use Rattle.settled.proofs.Facts.{meet, same, both, all_three, ten, five}
-use Rattle.laws.proofs.Leaves.{the_answer}
 use Rattle.tables.specs.contracts.true_count as true-count
 use Rattle.tables.specs.contracts.xor_true as xor-true
 use Rattle.tables.specs.contracts.one_for as one-for
@@ -157,15 +158,15 @@ pub flip-all-settled : Inner flip-all.ended (λ M 𝓤. flip-all.clauses)
 flip-all-settled M 𝓤 𝓛 mem run κs a g = record { one-outcome = λ x y. all_three 𝓤 (λ r p q. let e = meet p q in same (ap (λ m. m.tallies.uncovered.number) e) (ap (λ (m : Moving). (tt, (m.words, (tt, (tt, counted m (tt, tt)))))) e)) }
 
 -- the counts of an answer
-abbrev counts_of : Flipped → Counts
-counts_of (F.Applied n) = n
-counts_of (F.Refused e) = e.counts
+abbrev counts_of : Result Counts Refusal → Counts
+counts_of (Ok n) = n
+counts_of (Err e) = e.counts
 
 pub flip_agreeing_settled : Inner flip-agreeing.ended (λ M 𝓤. flip-agreeing.clauses)
 flip_agreeing_settled M 𝓤 𝓛 mem run κs a g =
     record {
       one-outcome = λ x y. all_three 𝓤
-          (λ r p q. let e = meet p q in same (ap (λ (l : Ten Flipped). counts_of l.answer) e) (ap (λ (l : Ten Flipped). (tt, (tt, five l.tables tt))) e));
+          (λ r p q. let e = meet p q in same (ap (λ (l : Ten (Result Counts Refusal)). counts_of l.answer) e) (ap (λ (l : Ten (Result Counts Refusal)). (tt, (tt, five l.tables tt))) e));
     }
 
 -- what was picked, and where a walk stands, as the code hands it back
@@ -187,8 +188,13 @@ literal_in_settled M 𝓤 𝓛 mem run κs a g = record { one-outcome = λ x y. 
 pub one-walk-settled : Inner one-walk.ended (λ M 𝓤. one-walk.clauses)
 one-walk-settled M 𝓤 𝓛 mem run κs a g = record { one-outcome = λ x y. all_three 𝓤 (λ r p q. let e = meet p q in same (ap standing e) (ap (λ (v : Stand). (tt, (tt, (v.tables.words, (tt, (tt, (tt, (tt, counted v.tables (tt, (tt, tt)))))))))) e)) }
 
+-- how the walks of an answer end
+abbrev ending : Result Walked Refusal → Walked
+ending (Ok w) = w
+ending (Err e) = GaveUp (record { walks = 0; flips = 0; counts = e.counts })
+
 pub walk-tested-settled : Inner walk-tested.ended (λ M 𝓤. walk-tested.clauses)
-walk-tested-settled M 𝓤 𝓛 mem run κs a g = record { one-outcome = λ x y. all_three 𝓤 (λ r p q. let e = meet p q in same (the_answer e) (ap (λ l. (tt, (tt, five l.tables (tt, tt)))) e)) }
+walk-tested-settled M 𝓤 𝓛 mem run κs a g = record { one-outcome = λ x y. all_three 𝓤 (λ r p q. let e = meet p q in same (ap (λ (l : Leaves (Result Walked Refusal)). ending l.answer) e) (ap (λ l. (tt, (tt, five l.tables (tt, tt)))) e)) }
 
 pub verdict-settled : Public verdict.ended (λ M 𝓤. verdict.clauses)
 verdict-settled M 𝓤 𝓛 mem run κs a g = record { asks_nothing = refl; one-outcome = λ x y. both 𝓤 (λ p q. same (meet p q) refl) }
@@ -258,7 +264,7 @@ form-report-settled M 𝓤 𝓛 mem run κs a g = record { one-outcome = λ x y.
 
 pub read-full-settled : Inner read-full.ended (λ M 𝓤. read-full.clauses)
 read-full-settled M 𝓤 𝓛 mem run κs a g =
-    record { one-outcome = λ x y. all_three 𝓤 (λ r p q. let e = meet p q in same (ap (λ (l : Ten Read). l.answer) e) (ap (λ (l : Ten Read). (tt, (tt, ten l.tables tt))) e)) }
+    record { one-outcome = λ x y. all_three 𝓤 (λ r p q. let e = meet p q in same (ap (λ (l : Ten (Result Counts Fault)). l.answer) e) (ap (λ (l : Ten (Result Counts Fault)). (tt, (tt, ten l.tables tt))) e)) }
 
 pub read-on-settled : Inner read-on.ended (λ M 𝓤. read-on.clauses)
 read-on-settled M 𝓤 𝓛 mem run κs a g = record { one-outcome = λ x y. all_three 𝓤 (λ r p q. let e = meet p q in same (ap (λ (w : Ran). w.answer.length) e) (ap (λ (w : Ran). (tt, (tt, (tt, ten w.tables (tt, (w.buffer, tt)))))) e)) }

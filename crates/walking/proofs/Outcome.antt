@@ -7,6 +7,7 @@ use native.Mathlib.Omega.{arith}
 use native.Mathlib.Nat.{mul-le-mul}
 use lib.ListN.{length}
 use borrow.Author.Tests.{leb-true}
+use Rattle.std.specs.Prelude.{Ok}
 use Rattle.written.specs.declared.Counts.{Counts}
 use Rattle.written.specs.declared.Order.{Order}
 use Rattle.written.specs.declared.Tour.{Tour}
@@ -183,13 +184,13 @@ module _ (lim : Limits) (o : Order) (n : Counts) (t : Tables) (ms : List ℕ) (o
           let c = agreed.counted_are lim n t full agrees r same-file number_is in
           λ i. record { walks = a i; flips = b i; counts = c i }
 
-      found-answer : e.found ≡ true → W.Found made ≡ (walk_made lim o n t ms).answer
+      found-answer : e.found ≡ true → Ok (W.Found made) ≡ (walk_made lim o n t ms).answer
       unfolding walk_leaves
-      found-answer q = rw (sym ends.found ∙ q) (ap W.Found tour-is)
+      found-answer q = rw (sym ends.found ∙ q) (ap (λ (x : Tour). Ok (W.Found x)) tour-is)
 
-      gave_up-answer : e.found ≡ false → W.GaveUp made ≡ (walk_made lim o n t ms).answer
+      gave_up-answer : e.found ≡ false → Ok (W.GaveUp made) ≡ (walk_made lim o n t ms).answer
       unfolding walk_leaves
-      gave_up-answer q = rw (sym ends.found ∙ q) (ap W.GaveUp tour-is)
+      gave_up-answer q = rw (sym ends.found ∙ q) (ap (λ (x : Tour). Ok (W.GaveUp x)) tour-is)
 
       -- and what is left, once the places are those of written tables
       module _ {ps : List ℕ} (q : ps ≡ rewritten (rest_place e.last.tables.tallies.trues) n.clauses e.last.tables.tallies.uncovered.places) where
@@ -202,10 +203,10 @@ module _ (lim : Limits) (o : Order) (n : Counts) (t : Tables) (ms : List ℕ) (o
         unfolding walk_leaves
         tables_are = agreed.leaves_are lim n t full agrees r same-file (is-closed n.clauses e.last.tables q ∙ closed_now)
 
-        pub has-found : e.found ≡ true → leaves (W.Found made) after ms ≡ walk_made lim o n t ms
+        pub has-found : e.found ≡ true → leaves (Ok (W.Found made)) after ms ≡ walk_made lim o n t ms
         unfolding walk_leaves
         has-found so = both_left (found-answer so) tables_are refl
 
-        pub has-given-up : e.found ≡ false → leaves (W.GaveUp made) after ms ≡ walk_made lim o n t ms
+        pub has-given-up : e.found ≡ false → leaves (Ok (W.GaveUp made)) after ms ≡ walk_made lim o n t ms
         unfolding walk_leaves
         has-given-up so = both_left (gave_up-answer so) tables_are refl

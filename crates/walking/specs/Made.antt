@@ -1,5 +1,6 @@
 -- A walk that is made. Assumes nothing.
-use Rattle.std.specs.Prelude.{ℕ, List}
+use Rattle.std.specs.Prelude.{ℕ, List, Result}
+use Rattle.written.specs.declared.Refusal.{Refusal}
 use Rattle.written.specs.declared.Counts.{Counts}
 use Rattle.written.specs.declared.Order.{Order}
 use Rattle.written.specs.declared.Walked.{Walked}
@@ -10,5 +11,5 @@ use Rattle.written.specs.Outcomes.{Leaves, walk_leaves}
 use Rattle.written.specs.Walk.{walk_over}
 
 -- what a walk answers and leaves once it is made
-abbrev pub walk_made : Limits → Order → Counts → Tables → List ℕ → Leaves Walked
+abbrev pub walk_made : Limits → Order → Counts → Tables → List ℕ → Leaves (Result Walked Refusal)
 walk_made lim o n t ms = walk_leaves lim t ms (walk_over o ms (file_in n t))

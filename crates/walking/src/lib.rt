@@ -3,7 +3,7 @@
 
 #![tactic(auto)]
 
-ghost use Rattle.std.specs.Prelude.{◌≡◌, false, cond, ltb, ◌^◌};
+ghost use Rattle.std.specs.Prelude.{◌≡◌, false, cond, ltb, ◌^◌, Ok};
 ghost use Rattle.written.specs.Limits.{narrow};
 ghost use Rattle.written.specs.Lending.{lent_at};
 ghost use Rattle.written.specs.Outcomes.{leaves};
@@ -105,7 +105,7 @@ pub fn walk_tested(
 ) -> Walked
     requires { Allowed narrow order n (lent_at names.now values.old starts.now literals.now occurrence_starts.now occurrences.now trues.old
         breaks.old uncovered.old places.old) marks.now }
-    ensures { leaves result (lent_at names.now values.new starts.now literals.now occurrence_starts.now occurrences.now trues.new breaks.new
+    ensures { leaves (Ok result) (lent_at names.now values.new starts.now literals.now occurrence_starts.now occurrences.now trues.new breaks.new
         uncovered.new places.new) marks.now
         ≡ walk_made narrow order n (lent_at names.now values.old starts.now literals.now occurrence_starts.now occurrences.now trues.old
         breaks.old uncovered.old places.old)
@@ -132,15 +132,12 @@ pub fn walk_tested(
     );
     recounts::close_all(n.clauses as usize, trues, places);
     let at = e.at;
-    let number = at.number as u32;
     let tour = Tour {
         walks: e.walks,
         flips: at.flips,
         counts: Counts {
-            terms: n.terms,
-            clauses: n.clauses,
-            literals: n.literals,
-            uncovered: number,
+            uncovered: at.number as u32,
+            ..n
         },
     };
     if e.found {

@@ -2,10 +2,11 @@
 use Prim.Native.Nat.{ℕ}
 use mathlib.Core.Path.{◌≡◌, sym, subst, ◌∙◌}
 use mathlib.Core.List.{List}
+use Rattle.std.specs.Prelude.{Result, Ok, Err, ⊤}
+use Rattle.written.specs.declared.Refusal.{Refusal}
 use Rattle.written.specs.declared.Counts.{Counts}
 use Rattle.written.specs.declared.Order.{Order}
 use Rattle.written.specs.declared.Walked.{Walked}
-use Rattle.written.specs.declared.Walked.TheVariants as W
 use Rattle.written.specs.declared.Reason.{Reason}
 use Rattle.written.specs.Limits.{Limits}
 use Rattle.written.specs.Tables.{Tables}
@@ -16,16 +17,14 @@ use Rattle.laws.specs.WalkCalls.{Allowed, Fails}
 use Rattle.laws.specs.WalkCalls.Fails.{short, outside, disagree}
 use Rattle.laws.proofs.Basics.{by_cases}
 use Rattle.laws.proofs.WalkCalls.{failed, passed}
-use Rattle.written.specs.declared.Tested.{Tested}
-use Rattle.written.specs.declared.Tested.TheVariants.{Passed, Failed}
 use Rattle.walking.specs.Made.{walk_made}
 use Rattle.walking_call.specs.Tests.{tests_of}
 
 module _ (lim : Limits) (o : Order) (n : Counts) (t : Tables) (ms : List ℕ) where
   -- what the tests say by what they come to
-  abbrev Says : Tested → Type 0
-  Says Passed = Allowed lim o n t ms
-  Says (Failed e) = Fails lim o n t ms e
+  abbrev Says : Result ⊤ Reason → Type 0
+  Says (Ok tt) = Allowed lim o n t ms
+  Says (Err e) = Fails lim o n t ms e
 
   tests_say : Says (tests_of lim o n t ms)
   unfolding tests_of
@@ -37,28 +36,28 @@ module _ (lim : Limits) (o : Order) (n : Counts) (t : Tables) (ms : List ℕ) wh
       (λ a. rw a (short a))
 
   -- where one fails, nothing changes
-  module _ {e : Reason} (h : tests_of lim o n t ms ≡ Failed e) where
+  module _ {e : Reason} (h : tests_of lim o n t ms ≡ Err e) where
     fails : Fails lim o n t ms e
     fails = subst Says h tests_say
 
-    refused-leaves : leaves (W.Refused (record { reason = e; counts = n })) t ms ≡ walk_of lim o n t ms
+    refused-leaves : leaves (Err (record { reason = e; counts = n })) t ms ≡ walk_of lim o n t ms
     refused-leaves = sym (failed lim o n t ms e fails)
 
   -- where all are passed, the walks are made
-  module _ (h : tests_of lim o n t ms ≡ Passed) where
+  module _ (h : tests_of lim o n t ms ≡ Ok tt) where
     passed-allowed : Allowed lim o n t ms
     passed-allowed = subst Says h tests_say
 
-    made-leaves : {l : Leaves Walked} → l ≡ walk_made lim o n t ms → l ≡ walk_of lim o n t ms
+    made-leaves : {l : Leaves (Result Walked Refusal)} → l ≡ walk_made lim o n t ms → l ≡ walk_of lim o n t ms
     made-leaves q = q ∙ sym (passed lim o n t ms passed-allowed)
 
 -- what the tests said, as a
-module _ (lim : Limits) (o : Order) (n : Counts) (t : Tables) (ms : List ℕ) {a : Tested} (asked : a ≡ tests_of lim o n t ms) where
-  pub was-refused : {e : Reason} → a ≡ Failed e → leaves (W.Refused (record { reason = e; counts = n })) t ms ≡ walk_of lim o n t ms
+module _ (lim : Limits) (o : Order) (n : Counts) (t : Tables) (ms : List ℕ) {a : Result ⊤ Reason} (asked : a ≡ tests_of lim o n t ms) where
+  pub was-refused : {e : Reason} → a ≡ Err e → leaves (Err (record { reason = e; counts = n })) t ms ≡ walk_of lim o n t ms
   was-refused q = refused-leaves lim o n t ms (sym asked ∙ q)
 
-  pub was-allowed : a ≡ Passed → Allowed lim o n t ms
+  pub was-allowed : a ≡ Ok tt → Allowed lim o n t ms
   was-allowed q = passed-allowed lim o n t ms (sym asked ∙ q)
 
-  pub was-made : a ≡ Passed → {l : Leaves Walked} → l ≡ walk_made lim o n t ms → l ≡ walk_of lim o n t ms
+  pub was-made : a ≡ Ok tt → {l : Leaves (Result Walked Refusal)} → l ≡ walk_made lim o n t ms → l ≡ walk_of lim o n t ms
   was-made q = made-leaves lim o n t ms (sym asked ∙ q)

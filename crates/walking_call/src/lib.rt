@@ -11,7 +11,7 @@ ghost use Rattle.walking_call.specs.Tests.{tests_of};
 ghost use Rattle.tables.specs.Seen.{seen};
 
 use tables::Tables;
-use written::{Counts, Order, Reason, Refusal, Tested, Walked};
+use written::{Counts, Order, Reason, Refusal, Walked};
 
 // Every number of the order is in its range.
 fn in_range(order: Order) -> bool
@@ -36,19 +36,19 @@ fn in_range(order: Order) -> bool
 }
 
 // The tests, in their order: 1, 11, 12.
-fn verdict(order: Order, n: Counts, tables: Tables, marks: &[u8]) -> Tested
+fn verdict(order: Order, n: Counts, tables: Tables, marks: &[u8]) -> Result<(), Reason>
     ensures { result ≡ tests_of narrow order n (seen tables.entry) marks.now }
 {
     if !tables.all_full(marks) {
-        return Tested::Failed(Reason::TableTooShort);
+        return Err(Reason::TableTooShort);
     }
     if !in_range(order) {
-        return Tested::Failed(Reason::OutOfRange);
+        return Err(Reason::OutOfRange);
     }
     if !marked::agrees(n, tables, marks) {
-        return Tested::Failed(Reason::TablesDisagree);
+        return Err(Reason::TablesDisagree);
     }
-    Tested::Passed
+    Ok(())
 }
 
 // The walks of an order, or a refusal that changes nothing.
@@ -66,7 +66,7 @@ pub fn walk(
     uncovered: &mut [u16],
     places: &mut [u16],
     marks: &[u8],
-) -> Walked
+) -> Result<Walked, Refusal>
     ensures { leaves result (lent_at names.now values.new starts.now literals.now occurrence_starts.now occurrences.now trues.new breaks.new
         uncovered.new places.new) marks.now
         ≡ walk_of narrow order n (lent_at names.now values.old starts.now literals.now occurrence_starts.now occurrences.now trues.old breaks.old
@@ -85,16 +85,8 @@ pub fn walk(
         uncovered,
         places,
     };
-    match verdict(order, n, tables, marks) {
-        Tested::Failed(reason) => {
-            return Walked::Refused(Refusal {
-                reason: reason,
-                counts: n,
-            });
-        }
-        Tested::Passed => {}
-    }
-    walking::walk_tested(
+    verdict(order, n, tables, marks).map_err(|reason| Refusal { reason, counts: n })?;
+    Ok(walking::walk_tested(
         order,
         n,
         names,
@@ -108,5 +100,5 @@ pub fn walk(
         uncovered,
         places,
         marks,
-    )
+    ))
 }

@@ -7,10 +7,10 @@ use Rattle.running_input.proofs.set_out.Goals as goal
 pub returns-then-input-gt65536 : goal.returns-then-input-gt65536
 returns-then-input-gt65536 c = too_long narrow _ c.if-input-gt65536.true
 
-pub returns-in-Refused : goal.returns-in-Refused
+pub returns-in-Err : goal.returns-in-Err
 unfolding by_sheet
-returns-in-Refused c = by-sheet narrow _ c.if-input-gt65536.false _ c.sheet.ensures c.in-Refused.is
+returns-in-Err c = by-sheet narrow _ c.if-input-gt65536.false _ c.sheet.ensures c.in-Err.is
 
-pub returns-in-Accepted : goal.returns-in-Accepted
+pub returns-in-Ok : goal.returns-in-Ok
 unfolding by_sheet
-returns-in-Accepted c = by-sheet narrow _ c.if-input-gt65536.false _ c.sheet.ensures c.in-Accepted.is
+returns-in-Ok c = by-sheet narrow _ c.if-input-gt65536.false _ c.sheet.ensures c.in-Ok.is

@@ -13,16 +13,16 @@ read_full-requires c = full-tables narrow _ _ c.requires.run.full
 
 pub refusal-requires : goal.refusal-requires
 refusal-requires c =
-    refused-fits c.args.form narrow _ (read_as c.args.form narrow c.args.text.now) _ _ _ c.requires c.read_full.ensures _ c.in-Refused.is (omega arith) (form-line-most c.args.form narrow c.args.text.now)
+    refused-fits c.args.form narrow _ (read_as c.args.form narrow c.args.text.now) _ _ _ c.requires c.read_full.ensures _ c.in-Err.is (omega arith) (form-line-most c.args.form narrow c.args.text.now)
 
 pub walk_on-requires : goal.walk_on-requires
 walk_on-requires c =
-    accepted-walks c.args.form narrow _ (read_as c.args.form narrow c.args.text.now) _ _ _ c.requires c.read_full.ensures (form-sound narrow (omega arith) c.args.form c.args.text.now) _ c.in-Accepted.is
+    accepted-walks c.args.form narrow _ (read_as c.args.form narrow c.args.text.now) _ _ _ c.requires c.read_full.ensures (form-sound narrow (omega arith) c.args.form c.args.text.now) _ c.in-Ok.is
 
-pub returns-in-Refused : goal.returns-in-Refused
-returns-in-Refused c =
-    refused-ends c.args.form narrow _ (read_as c.args.form narrow c.args.text.now) _ _ _ c.requires c.read_full.ensures _ c.in-Refused.is c.refusal.ensures
+pub returns-in-Err : goal.returns-in-Err
+returns-in-Err c =
+    refused-ends c.args.form narrow _ (read_as c.args.form narrow c.args.text.now) _ _ _ c.requires c.read_full.ensures _ c.in-Err.is c.refusal.ensures
 
-pub returns-in-Accepted : goal.returns-in-Accepted
-returns-in-Accepted c =
-    accepted-ends c.args.form narrow _ (read_as c.args.form narrow c.args.text.now) _ _ _ c.requires c.read_full.ensures (form-sound narrow (omega arith) c.args.form c.args.text.now) _ c.in-Accepted.is c.walk_on.ensures
+pub returns-in-Ok : goal.returns-in-Ok
+returns-in-Ok c =
+    accepted-ends c.args.form narrow _ (read_as c.args.form narrow c.args.text.now) _ _ _ c.requires c.read_full.ensures (form-sound narrow (omega arith) c.args.form c.args.text.now) _ c.in-Ok.is c.walk_on.ensures

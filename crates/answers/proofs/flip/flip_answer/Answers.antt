@@ -2,10 +2,10 @@
 use Rattle.answers.specs.Answers.{flip_answer}
 use Rattle.answers.proofs.flip.flip_answer.Goals as goal
 
-pub returns-in-Applied : goal.returns-in-Applied
+pub returns-in-Ok : goal.returns-in-Ok
 unfolding flip_answer
-returns-in-Applied c = rw c.in-Applied.is
+returns-in-Ok c = rw c.in-Ok.is
 
-pub returns-in-Refused : goal.returns-in-Refused
+pub returns-in-Err : goal.returns-in-Err
 unfolding flip_answer
-returns-in-Refused c = rw (c.in-Refused.is, c.number_of.ensures)
+returns-in-Err c = rw (c.in-Err.is, c.number_of.ensures)

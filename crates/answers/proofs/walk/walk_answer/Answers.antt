@@ -1,15 +1,23 @@
 -- `answers::walk::walk_answer` meets its contract: the values of each case. Assumes nothing.
+use mathlib.Core.Path.{◌≡◌}
+use native.Mathlib.Omega.{arith}
+use Rattle.std.specs.Prelude.{Ok}
+use Rattle.written.specs.declared.Walked.TheVariants.{Found, GaveUp}
 use Rattle.answers.specs.Answers.{walk_answer}
 use Rattle.answers.proofs.walk.walk_answer.Goals as goal
 
-pub returns-in-Found : goal.returns-in-Found
+pub returns-in-Ok-Found : goal.returns-in-Ok-Found
 unfolding walk_answer
-returns-in-Found c = rw c.in-Found.is c.tour_answer.ensures
+returns-in-Ok-Found c =
+    let ended : c.args.answer ≡ Ok (Found c.in-Ok-Found.tour) = grind arith in
+    rw ended c.tour_answer.ensures
 
-pub returns-in-GaveUp : goal.returns-in-GaveUp
+pub returns-in-Ok-GaveUp : goal.returns-in-Ok-GaveUp
 unfolding walk_answer
-returns-in-GaveUp c = rw c.in-GaveUp.is c.tour_answer-in-GaveUp.ensures
+returns-in-Ok-GaveUp c =
+    let ended : c.args.answer ≡ Ok (GaveUp c.in-Ok-GaveUp.tour) = grind arith in
+    rw ended c.tour_answer-in-Ok-GaveUp.ensures
 
-pub returns-in-Refused : goal.returns-in-Refused
+pub returns-in-Err : goal.returns-in-Err
 unfolding walk_answer
-returns-in-Refused c = rw (c.in-Refused.is, c.number_of.ensures)
+returns-in-Err c = rw (c.in-Err.is, c.number_of.ensures)
