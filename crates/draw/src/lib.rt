@@ -14,6 +14,7 @@ pub struct Generator {
 }
 
 // A number that was asked for: reason 0, or 11 with the number 0 and the state as it was.
+// No Result: the paper's refusal has a number and a state too, and the definitions of a walk take both of every draw.
 #[derive(Clone, Copy)]
 pub struct Drawn {
     pub reason: u32,
@@ -22,6 +23,7 @@ pub struct Drawn {
 }
 
 // The state after y.
+#[tactic(auto, unfolding(crate::specs::Xorshift::next_of, crate::specs::Xorshift::left_step, crate::specs::Xorshift::right_step))]
 pub fn stepped(y: u32) -> u32
     ensures { result ≡ next_of y }
 {
@@ -58,46 +60,37 @@ impl Generator {
         Generator { state: seed }
     }
 
+    #[tactic(auto, unfolding(crate::specs::Draw::draw_of))]
     pub fn drawn(self) -> Drawn
         ensures { result ≡ draw_of self.state }
     {
-        let y = self.state;
-        if y == 0 {
+        if self.state == 0 {
             return refused(self);
         }
-        let n = stepped(y);
+        let n = stepped(self.state);
         given(n, n)
     }
 
+    #[tactic(auto, unfolding(crate::specs::Draw::choice_of))]
     pub fn choice(self, m: u32) -> Drawn
         ensures { result ≡ choice_of m self.state }
     {
-        let y = self.state;
-        if y == 0 {
+        if self.state == 0 || m == 0 {
             return refused(self);
         }
-        if m == 0 {
-            return refused(self);
-        }
-        let n = stepped(y);
+        let n = stepped(self.state);
         given(n % m, n)
     }
 
+    #[tactic(auto, unfolding(crate::specs::Draw::heads_of))]
     pub fn heads(self, bias: u32) -> Drawn
         ensures { result ≡ heads_of bias self.state }
     {
-        let y = self.state;
-        if y == 0 {
+        if self.state == 0 || 1000 < bias {
             return refused(self);
         }
-        if 1000 < bias {
-            return refused(self);
-        }
-        let n = stepped(y);
-        if n % 1000 < bias {
-            return given(1, n);
-        }
-        given(0, n)
+        let n = stepped(self.state);
+        given(u32::from(n % 1000 < bias), n)
     }
 }
 

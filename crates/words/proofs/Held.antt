@@ -30,20 +30,6 @@ module _ (ws : List ℕ) (t m : ℕ) where
   pub hold-length : length (hold_at ws t m) ≡ length ws
   hold-length = held_by (λ vs. length vs ≡ length ws) refl (turn-length ws t)
 
-  -- by the tests that are made
-  pub hold-free : m ≡ 0 → ws ≡ hold_at ws t m
-  unfolding hold_at
-  hold-free e = rw (eq-eqb m 0 e)
-
-  module _ (n : m ≡ 0 → ⊥) {v w : ℕ} (e : v ≡ bit_at ws t) (f : w ≡ cond (eqb m 1) 0 1) where
-    pub hold-kept : v ≡ w → ws ≡ hold_at ws t m
-    unfolding hold_at
-    hold-kept q = rw (ne_eqb m 0 n, eq-eqb (bit_at ws t) (cond (eqb m 1) 0 1) (sym e ∙ q ∙ f))
-
-    pub hold-turned : (v ≡ w → ⊥) → {vs : List ℕ} → vs ≡ turn_at ws t → vs ≡ hold_at ws t m
-    unfolding hold_at
-    hold-turned q g = rw (ne_eqb m 0 n, ne_eqb (bit_at ws t) (cond (eqb m 1) 0 1) (λ r. q (e ∙ r ∙ sym f))) g
-
   -- the term has the value of its mark
   pub hold-same : t / 32 < length ws → bit_at (hold_at ws t m) t ≡ cond (eqb m 0) (bit_at ws t) (cond (eqb m 1) 0 1)
   unfolding hold_at

@@ -1,22 +1,22 @@
--- `digits::begins` meets its contract: what is left of the bytes begins with what is left of the key exactly if all do. Assumes nothing.
-use mathlib.Core.Path.{sym, ◌∙◌}
-use borrow.Author.Tests.{eq-eqb, ne_eqb}
-use Rattle.digits.proofs.Keys.{leads, key-short, key-fails, key_more, key-passed}
+-- `digits::begins` meets its contract: the standard library compares the key with the bytes as the paper does the bytes with the key. Assumes nothing.
+use mathlib.Core.Path.{◌≡◌, refl, sym, ap₂, ◌∙◌}
+use mathlib.Core.Bool.{Bool, ◌&&◌}
+use mathlib.Core.List.{List, [], ◌∷◌}
+use Prim.Native.Nat.{ℕ}
+use lib.Dec.{eqb}
+use lib.ListN.{length, take}
+use lib.Pointwise.{pointwise}
+use borrow.Author.Tests.{eqb-true, eq-eqb}
+use Rattle.written.specs.Lists.{same}
+use Rattle.laws.proofs.Basics.{same_tests}
 use Rattle.digits.proofs.begins.Goals as goal
 
-pub returns-then-rest-i : goal.returns-then-rest-i
-unfolding leads
-returns-then-rest-i c = sym (key-short _ _ _ c.loop-i-test.true c.if-rest-i.true) ∙ c.loop-i.invariant
-
-pub returns-then-rest-i-2 : goal.returns-then-rest-i-2
-unfolding leads
-returns-then-rest-i-2 c =
-    sym (key-fails _ _ _ c.loop-i-test.true c.if-rest-i.false (ne_eqb _ _ c.if-rest-i-2.true)) ∙ c.loop-i.invariant
-
-pub loop-i-preserved : goal.loop-i-preserved
-loop-i-preserved c =
-    key_more _ _ _ c.loop-i-test.true c.if-rest-i.false (eq-eqb _ _ c.if-rest-i-2.false) ∙ c.loop-i.invariant
+pointwise-same : (key xs : List ℕ) → pointwise eqb key xs ≡ same xs key
+pointwise-same [] [] = refl
+pointwise-same [] (x ∷ xs) = refl
+pointwise-same (k ∷ key) [] = refl
+pointwise-same (k ∷ key) (x ∷ xs) =
+    ap₂ (λ (a b : Bool). a && b) (same_tests _ _ (λ h. eq-eqb x k (sym (eqb-true k x h))) (λ h. eq-eqb k x (sym (eqb-true x k h)))) (pointwise-same key xs)
 
 pub returns : goal.returns
-unfolding leads
-returns c = sym (key-passed _ _ _ c.loop-i-test.false) ∙ c.loop-i.invariant
+returns c = let key = c.args.key.now in c.starts_with.ensures.value ∙ pointwise-same key (take (length key) c.args.rest.now)

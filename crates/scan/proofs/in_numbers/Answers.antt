@@ -6,9 +6,9 @@ pub returns : goal.returns
 unfolding told_of
 returns c =
     rw (
-      c.kind_of.ensures,
-      c.reason_of.ensures,
-      c.line_of.ensures,
-      c.name_in.ensures,
-      c.sign_in.ensures,
+      c.kind.ensures,
+      c.reason.ensures,
+      c.line.ensures,
+      c.name.ensures,
+      c.sign.ensures,
     )

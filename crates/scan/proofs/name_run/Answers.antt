@@ -22,14 +22,14 @@ returns-then-not-is c =
 
 pub overflow_mul-name : goal.overflow_mul-name
 overflow_mul-name c =
-    let small = byte _ _ _ c.is.ensures c.if-not-is.false c.widened.ensures in
-    let room = packing_room 8 (drop c.args.s c.args.text.now) (c.loop-i.i - c.args.s) c.loop-i.name c.loop-i.weight c.widened.result c.loop-i.invariant.2 small in
+    let small = byte _ _ _ c.is.ensures c.if-not-is.false c.from.ensures in
+    let room = packing_room 8 (drop c.args.s c.args.text.now) (c.loop-i.i - c.args.s) c.loop-i.name c.loop-i.weight c.from.result c.loop-i.invariant.2 small in
     omega arith
 
 pub overflow_add-name : goal.overflow_add-name
 overflow_add-name c =
-    let small = byte _ _ _ c.is.ensures c.if-not-is.false c.widened.ensures in
-    let room = packing_room 8 (drop c.args.s c.args.text.now) (c.loop-i.i - c.args.s) c.loop-i.name c.loop-i.weight c.widened.result c.loop-i.invariant.2 small in
+    let small = byte _ _ _ c.is.ensures c.if-not-is.false c.from.ensures in
+    let room = packing_room 8 (drop c.args.s c.args.text.now) (c.loop-i.i - c.args.s) c.loop-i.name c.loop-i.weight c.from.result c.loop-i.invariant.2 small in
     omega arith
 
 pub loop-i-preserved : goal.loop-i-preserved
@@ -38,10 +38,11 @@ loop-i-preserved c =
     let l = c.loop-i in (
       omega arith,
       past_more (is_of Name) _ _ c.loop-i-test.true (sym c.is.ensures ∙ c.if-not-is.false) ∙ l.invariant.1,
-      packing_on 8 a.text.now a.s l.i l.name l.weight c.widened.result l.invariant.0 l.invariant.2 c.widened.ensures (byte _ _ _ c.is.ensures c.if-not-is.false c.widened.ensures),
+      packing_on 8 a.text.now a.s l.i l.name l.weight c.from.result l.auto.i l.invariant.2 c.from.ensures (byte _ _ _ c.is.ensures c.if-not-is.false c.from.ensures),
     )
 
 pub returns : goal.returns
 returns c =
     let inv = c.loop-i.invariant in
-    (sym (past_end _ _ _ c.loop-i-test.false) ∙ inv.1, inv.2.whole)
+    let end : c.max.result ≡ c.loop-i.i = omega arith in
+    (omega (arith, past_end (is_of Name) c.args.text.now c.loop-i.i c.loop-i-test.false, inv.1), rw end inv.2.whole)

@@ -9,5 +9,5 @@ returns-then-k-n c = whole-kept _ _ _ c.if-k-n.true c.ranges.w.fits
 pub returns-then-k-n-2 : goal.returns-then-k-n-2
 returns-then-k-n-2 c = part-kept _ _ _ c.if-k-n-2.true
 
-pub returns : goal.returns
-returns c = none_kept _ _ _ (omega arith)
+pub returns-else-k-n-2 : goal.returns-else-k-n-2
+returns-else-k-n-2 c = none_kept _ _ _ (omega arith)

@@ -7,7 +7,7 @@ use Rattle.words.proofs.put.Goals as goal
 
 pub returns-then-k-words : goal.returns-then-k-words
 unfolding put_at
-returns-then-k-words c = ap (set c.args.words.now c.args.k) c.kept-v.ensures
+returns-then-k-words c = ap (set c.args.words.now c.args.k) c.kept.ensures
 
 pub returns-else-k-words : goal.returns-else-k-words
 returns-else-k-words c = put-none _ _ _ _ c.if-k-words.false

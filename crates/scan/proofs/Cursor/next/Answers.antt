@@ -9,9 +9,9 @@ unfolding scan scan_from
 returns-then-cut_off c =
     simp (sym c.skip-a.ensures, le-leb _ _ c.if-text-a.true, sym c.cut_off.ensures ∙ c.if-cut_off.true)
 
-pub returns-then-text-a : goal.returns-then-text-a
+pub returns-else-cut_off : goal.returns-else-cut_off
 unfolding scan scan_from
-returns-then-text-a c =
+returns-else-cut_off c =
     simp (sym c.skip-a.ensures, le-leb _ _ c.if-text-a.true, sym c.cut_off.ensures ∙ c.if-cut_off.false)
 
 pub returns-then-b-eq10 : goal.returns-then-b-eq10

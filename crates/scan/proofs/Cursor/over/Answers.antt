@@ -6,4 +6,4 @@ pub returns-then-text-end : goal.returns-then-text-end
 returns-then-text-end c = at-text-end _ _ c.skip-end.ensures c.if-text-end.true
 
 pub returns : goal.returns
-returns c = at-line-end _ _ c.skip-end.ensures c.if-text-end.false c.following-below.ensures
+returns c = at-line-end _ _ c.skip-end.ensures c.if-text-end.false c.following-line.ensures
