@@ -1,4 +1,4 @@
--- Bytes put into a page: nothing, one list after another, one byte; the buffer keeps its length. Assumes nothing.
+-- Bytes put into a page: nothing, one list after another, one byte, a part stored over; the buffer keeps its length. Assumes nothing.
 use Prim.Native.Nat.{ℕ, ◌+◌, ◌-◌}
 use mathlib.Core.Path.{◌≡◌, refl, ap, ap₂, sym, ◌∙◌}
 use mathlib.Core.List.{List, [], ◌∷◌, ◌++◌, append_assoc, append-nil}
