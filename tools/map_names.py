@@ -61,7 +61,7 @@ def function(crate, path):
     source = text((ROOT / "crates" / crate / "src").glob("*.rt"))
     *types, name = path.split("::")
     for holder in types:
-        source = "\n".join(re.findall(r"(?ms)^impl %s\b.*?^}" % re.escape(holder), source))
+        source = "\n".join(re.findall(r"(?ms)^impl(?:<[^>]*>)? %s\b.*?^}" % re.escape(holder), source))
     found = re.search(r'(?m)^ *pub (extern "C" )?fn %s[<(]' % re.escape(name), source)
     return "function" if found else None
 

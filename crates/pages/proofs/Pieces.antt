@@ -1,11 +1,8 @@
 -- Pieces put into a page one after another: what is left to put gives what the whole gives. Assumes nothing.
-use Prim.Native.Nat.{ℕ, ◌+◌, ◌<◌}
-use mathlib.Core.Path.{◌≡◌, refl, sym, ◌∙◌}
+use Prim.Native.Nat.{ℕ}
+use mathlib.Core.Path.{◌≡◌, sym, ◌∙◌}
 use mathlib.Core.List.{List, [], ◌∷◌, ◌++◌, flatten, foldl, append_assoc, append-nil}
-use native.Mathlib.Numerals.{add-one}
-use lib.ListN.{length, get_or, drop}
-use lib.Seq.{drop-cons}
-use Rattle.pages.specs.Pages.{Page, put, CanPut}
+use Rattle.pages.specs.Pages.{Page, page, put, CanPut}
 use Rattle.pages.proofs.Putting.{put-none, fits-first, fits_next, put_both}
 
 -- the pieces are left to put into the page q, and it is then the page that is asked for
@@ -22,6 +19,10 @@ joined xs (ys ∷ more) = joined (xs ++ ys) more ∙ append_assoc xs ys (flatten
 pub begun : (xs : List ℕ) (more : List (List ℕ)) (p : Page) → CanPut (foldl ◌++◌ xs more) p → Left (xs ∷ more) (put (foldl ◌++◌ xs more) p) p
 unfolding flatten
 begun xs more p h = record { fits = rw (sym (joined xs more)) h; rest = rw (joined xs more) }
+
+-- into the same page, as another value tells it
+pub handed : {pieces : List (List ℕ)} {asked p q : Page} → q ≡ p → Left pieces asked p → Left pieces asked q
+handed e l = rw e l
 
 -- the first of them fits, and once it is put the others are left
 module _ {xs : List ℕ} {more : List (List ℕ)} {asked q : Page} (l : Left (xs ∷ more) asked q) where
@@ -49,6 +50,6 @@ ended {q = q} l = sym (put-none q) ∙ l.rest
 pub over : {xs : List ℕ} {asked q : Page} → xs ≡ [] → Left (xs ∷ []) asked q → q ≡ asked
 over {q = q} e l = let m = rw e at l in ended (onward m (sym (put-none q)))
 
--- a piece byte by byte
-pub next-byte : (bytes : List ℕ) (i : ℕ) → i < length bytes → drop i bytes ≡ (get_or bytes i 0 ∷ []) ++ drop (i + 1) bytes
-next-byte bytes i h = rw (add-one, drop-cons bytes i 0) refl
+-- what a page leaves in its buffer, and how many bytes it put
+pub closed : {m n : ℕ} {xs ys : List ℕ} {asked : Page} → n ≡ m → ys ≡ xs → page m xs ≡ asked → page n ys ≡ asked
+closed e f g = rw (e, f) g

@@ -1,10 +1,14 @@
--- A name byte by byte, with its sign or without. Assumes nothing.
-use Prim.Native.Nat.{ℕ, zero, suc, ◌-◌, ◌/◌, ◌%◌, ◌≤◌, ◌<◌}
+-- A number's last digit; a name byte by byte, with its sign or without. Assumes nothing.
+use Prim.Native.Nat.{ℕ, zero, suc, ◌+◌, ◌-◌, ◌/◌, ◌%◌, ◌≤◌, ◌<◌}
 use mathlib.Core.Path.{◌≡◌, refl}
 use mathlib.Core.List.{[], ◌∷◌, ◌++◌}
 use native.Mathlib.Omega.{arith}
 use borrow.Author.Tests.{eq-eqb, ne_eqb}
-use Rattle.written.specs.Printed.{name_of, signed}
+use Rattle.written.specs.Printed.{decimal, name_of, signed}
+use Rattle.laws.proofs.Decimals.{decimal-one}
+
+pub decimal_last : (n : ℕ) → n < 10 → decimal n ≡ (48 + n % 10) ∷ []
+decimal_last n h = let small : n % 10 ≡ n = omega arith in rw small (decimal-one n h)
 
 pub name-none : (k x : ℕ) → k ≤ 0 → name_of k x ≡ []
 unfolding name_of

@@ -1,5 +1,6 @@
 -- A lent buffer that is written from its front. Assumes nothing.
 use Rattle.std.specs.Prelude.{ℕ, ◌+◌, ◌≤◌, List, [], ◌∷◌, ◌++◌, length, take, drop}
+use Rattle.pages.specs.declared.Page as lent
 
 -- the buffer, and the place where the next byte goes
 pub record Page : Type 0 where
@@ -8,6 +9,10 @@ pub record Page : Type 0 where
 
 abbrev pub page : ℕ → List ℕ → Page
 page at b = record { at = at; buffer = b }
+
+-- as the code holds it
+abbrev pub page_of : lent.Page → Page
+page_of p = page p.at p.out.now
 
 -- bytes put at the place, which moves past them; the rest of the buffer stays
 unfoldable pub put : List ℕ → Page → Page

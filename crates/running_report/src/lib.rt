@@ -6,27 +6,26 @@
 ghost use Rattle.std.specs.Prelude.{◌≡◌};
 ghost use Rattle.written.specs.Limits.{narrow};
 ghost use Rattle.written.specs.Printed.{refusal};
-ghost use Rattle.pages.specs.Pages.{page, put, CanPut};
+ghost use Rattle.pages.specs.Pages.{page, page_of, put, CanPut};
 ghost use Rattle.running_report.specs.Reporting.{answer_in, CanName, tour_lines, found_lines, CanFind, gave_up_lines, report_in, CanReport};
 
+use pages::Page;
 use written::{Fault, Refusal, Tour, Walked};
 
 // Every term in order, one space between.
-fn put_answer(out: &mut [u8], at: usize, terms: usize, names: &[u64], values: &[u32]) -> usize
-    requires { CanName terms names.now values.now (page at out.old) }
-    ensures { page result out.new ≡ put (answer_in terms names.now values.now) (page at out.old) }
+fn put_answer(page: &mut Page, terms: usize, names: &[u64], values: &[u32])
+    requires { CanName terms names.now values.now (page_of page.old) }
+    ensures same_buffer { page.new.out.ghost_name ≡ page.old.out.ghost_name }
+    ensures bytes { page_of page.new ≡ put (answer_in terms names.now values.now) (page_of page.old) }
 {
     if terms == 0 {
-        return at;
+        return;
     }
-    let mut next = pages::put_term(out, at, words::value(values, 0), names[0]);
-    let mut t: usize = 1;
-    while t < terms {
-        next = pages::put_byte(out, next, 32);
-        next = pages::put_term(out, next, words::value(values, t), names[t]);
-        t += 1;
+    page.put_term(words::value(values, 0), names[0]);
+    for t in 1..terms {
+        page.put_byte(b' ');
+        page.put_term(words::value(values, t), names[t]);
     }
-    next
 }
 
 // "Refusal prints three lines".
@@ -34,20 +33,22 @@ pub fn refusal(out: &mut [u8], e: Fault) -> usize
     requires { CanPut (refusal e) (page 0 out.old) }
     ensures { page result out.new ≡ put (refusal e) (page 0 out.old) }
 {
-    let reason = e.reason;
-    let second = pages::put_all(out, 0, b"result=refused\n");
-    let third = pages::put_line(out, second, b"reason=", reasons::number_of(reason));
-    pages::put_line(out, third, b"line=", e.line)
+    let mut page = Page::new(out);
+    page.put_all(b"result=refused\n");
+    page.put_line(b"reason=", reasons::number_of(e.reason));
+    page.put_line(b"line=", e.line);
+    page.len()
 }
 
 // How a walk ended, its walks and its flips.
-fn put_tour(out: &mut [u8], res: &[u8], tour: Tour) -> usize
-    requires { CanPut (tour_lines res.now tour) (page 0 out.old) }
-    ensures { page result out.new ≡ put (tour_lines res.now tour) (page 0 out.old) }
+fn put_tour(page: &mut Page, how: &[u8], tour: Tour)
+    requires { CanPut (tour_lines how.now tour) (page_of page.old) }
+    ensures same_buffer { page.new.out.ghost_name ≡ page.old.out.ghost_name }
+    ensures bytes { page_of page.new ≡ put (tour_lines how.now tour) (page_of page.old) }
 {
-    let second = pages::put_all(out, 0, res);
-    let third = pages::put_line(out, second, b"walks=", tour.walks);
-    pages::put_line(out, third, b"flips=", tour.flips)
+    page.put_all(how);
+    page.put_line(b"walks=", tour.walks);
+    page.put_line(b"flips=", tour.flips);
 }
 
 // The five lines of a walk that found.
@@ -55,12 +56,13 @@ fn found(out: &mut [u8], tour: Tour, names: &[u64], values: &[u32]) -> usize
     requires { CanFind narrow tour names.now values.now (page 0 out.old) }
     ensures { page result out.new ≡ put (found_lines narrow tour names.now values.now) (page 0 out.old) }
 {
-    let n = tour.counts;
-    let fourth = put_tour(out, b"result=found\n", tour);
-    let fifth = pages::put_line(out, fourth, b"chosen=", words::chosen(values, 64));
-    let answer = pages::put_all(out, fifth, b"answer=");
-    let end = put_answer(out, answer, n.terms as usize, names, values);
-    pages::put_byte(out, end, 10)
+    let mut page = Page::new(out);
+    put_tour(&mut page, b"result=found\n", tour);
+    page.put_line(b"chosen=", words::chosen(values, 64));
+    page.put_all(b"answer=");
+    put_answer(&mut page, tour.counts.terms as usize, names, values);
+    page.put_byte(b'\n');
+    page.len()
 }
 
 // The five lines of one that gave up.
@@ -68,9 +70,11 @@ fn gave_up(out: &mut [u8], tour: Tour) -> usize
     requires { CanPut (gave_up_lines tour) (page 0 out.old) }
     ensures { page result out.new ≡ put (gave_up_lines tour) (page 0 out.old) }
 {
-    let fourth = put_tour(out, b"result=gaveup\n", tour);
-    let fifth = pages::put_all(out, fourth, b"chosen=0\n");
-    pages::put_all(out, fifth, b"answer=~?\n")
+    let mut page = Page::new(out);
+    put_tour(&mut page, b"result=gaveup\n", tour);
+    page.put_all(b"chosen=0\n");
+    page.put_all(b"answer=~?\n");
+    page.len()
 }
 
 // What a walk's answer prints; a refused one has no line.

@@ -49,13 +49,13 @@ module _ (p : Page) where
       rw (sym size) (begun (flatten (list_of (lines_for (length (list_of n (bit_at words)))) (value_line (list_of n (bit_at words))))) (bytes "v 0\n" ∷ []) p h)
 
   pub found_left : (e : Tour) (words : List ℕ) → CanPut (found_values e words) p
-      → Left (tour_told e.walks e.flips ∷ satisfiable ∷ value_lines (list_of e.counts.terms (bit_at words)) ∷ []) (put (found_values e words) p) p
+      → Left ((tour_told e.walks e.flips ++ satisfiable) ∷ value_lines (list_of e.counts.terms (bit_at words)) ∷ []) (put (found_values e words) p) p
   unfolding found_values
-  found_left e words = begun (tour_told e.walks e.flips) (satisfiable ∷ value_lines (list_of e.counts.terms (bit_at words)) ∷ []) p
+  found_left e words = begun (tour_told e.walks e.flips ++ satisfiable) (value_lines (list_of e.counts.terms (bit_at words)) ∷ []) p
 
-  pub gave_up-left : (e : Tour) → CanPut (up_lines e) p → Left (tour_told e.walks e.flips ∷ unknown ∷ []) (put (up_lines e) p) p
+  pub gave_up-left : (e : Tour) → CanPut (up_lines e) p → Left ((tour_told e.walks e.flips ++ unknown) ∷ []) (put (up_lines e) p) p
   unfolding up_lines
-  gave_up-left e = begun (tour_told e.walks e.flips) (unknown ∷ []) p
+  gave_up-left e = begun (tour_told e.walks e.flips ++ unknown) [] p
 
   pub refusal-left : (reason at n : ℕ) → n ≡ reason → CanPut (competed_not reason at) p
       → Left (line "c result=" (bytes "refused") ∷ line "c reason=" (decimal n) ∷ line "c line=" (decimal at) ∷ unknown ∷ []) (put (competed_not reason at) p) p

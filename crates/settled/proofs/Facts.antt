@@ -3,7 +3,7 @@ use Prim.Native.Nat.{ℕ}
 use mathlib.Core.Path.{◌≡◌, sym, ◌∙◌}
 use mathlib.Core.List.{List}
 use seplogic.Ra.Ura.{Ura}
-use base.Logic.{ent, via}
+use base.Logic.{SProp, ent, sep, via, snd∗}
 use contract.Monad.{fact, fact_use, fact_i, conj, conj_l, conj_r}
 use contract.Lifetimes.{Lfts}
 use denote.Triple.Entry.{Args}
@@ -53,3 +53,13 @@ module _ {M : Type 1} (𝓤 : Ura M) where
   all_three {R} {A} {B} {C} f =
       fact_use 𝓤 R (conj_l 𝓤 (fact 𝓤 R) (conj 𝓤 (fact 𝓤 A) (fact 𝓤 B)))
       (λ r. via 𝓤 (conj 𝓤 (fact 𝓤 A) (fact 𝓤 B)) (conj_r 𝓤 (fact 𝓤 R) (conj 𝓤 (fact 𝓤 A) (fact 𝓤 B))) (both (f r)))
+
+  -- of two clauses the second, whatever was asked
+  pub second : {A B A₂ B₂ C : Type 0} → (X : SProp 𝓤) → (B → B₂ → C)
+      → ent 𝓤 (conj 𝓤 X (conj 𝓤 (sep 𝓤 (fact 𝓤 A) (fact 𝓤 B)) (sep 𝓤 (fact 𝓤 A₂) (fact 𝓤 B₂)))) (fact 𝓤 C)
+  second {A} {B} {A₂} {B₂} {C} X f =
+      let P = sep 𝓤 (fact 𝓤 A) (fact 𝓤 B) in
+      let Q = sep 𝓤 (fact 𝓤 A₂) (fact 𝓤 B₂) in
+      via 𝓤 (conj 𝓤 P Q) (conj_r 𝓤 X (conj 𝓤 P Q))
+      (fact_use 𝓤 B (via 𝓤 P (conj_l 𝓤 P Q) (snd∗ 𝓤 (fact 𝓤 A) (fact 𝓤 B)))
+      (λ b. fact_use 𝓤 B₂ (via 𝓤 Q (conj_r 𝓤 P Q) (snd∗ 𝓤 (fact 𝓤 A₂) (fact 𝓤 B₂))) (λ d. fact_i 𝓤 C (conj 𝓤 P Q) (f b d))))

@@ -21,11 +21,11 @@ use Rattle.reading_lines.specs.Drafting.{Desk}
 use Rattle.reading_lines.specs.Turns.{LineEnd}
 use Rattle.reading_end.specs.Clearing.{Others}
 use Rattle.reading_end.specs.Finishing.{Finished}
-use Rattle.pages.specs.Pages.{Page}
+use Rattle.pages.specs.Pages.{Page, page_of}
 use Rattle.written.specs.Drawing.{Pick}
 use Rattle.written.specs.Program.{Ran}
-use Rattle.settled.specs.Outcomes.{Public, Inner}
-use Rattle.settled.proofs.Facts.{meet, same, both, all_three, ten, five}
+use Rattle.settled.specs.Outcomes.{Public, Inner, InnerSeen}
+use Rattle.settled.proofs.Facts.{meet, same, both, all_three, second, ten, five}
 use Rattle.tables.specs.contracts.true_count as true-count
 use Rattle.tables.specs.contracts.xor_true as xor-true
 use Rattle.tables.specs.contracts.one_for as one-for
@@ -61,12 +61,14 @@ use Rattle.reading.specs.contracts.read_full as read-full
 use Rattle.reading_end.specs.contracts.clear_draft as clear-draft
 use Rattle.reading_end.specs.contracts.clear_others as clear-others
 use Rattle.reading_end.specs.contracts.finish as finish
-use Rattle.pages.specs.contracts.put_byte as put_byte
-use Rattle.pages.specs.contracts.put_all as put_all_lem
-use Rattle.pages.specs.contracts.put_number as put-number
-use Rattle.pages.specs.contracts.put_name as put-name
-use Rattle.pages.specs.contracts.put_term as put-term
-use Rattle.pages.specs.contracts.put_line as put-line
+use Rattle.pages.specs.contracts.Page.new as page-new
+use Rattle.pages.specs.contracts.Page.len as page-len
+use Rattle.pages.specs.contracts.Page.put_byte as put_byte
+use Rattle.pages.specs.contracts.Page.put_all as put_all_lem
+use Rattle.pages.specs.contracts.Page.put_number as put-number
+use Rattle.pages.specs.contracts.Page.put_name as put-name
+use Rattle.pages.specs.contracts.Page.put_term as put-term
+use Rattle.pages.specs.contracts.Page.put_line as put-line
 use Rattle.digits.specs.contracts.value as value
 use Rattle.numerals.specs.contracts.past_comments as past-comments
 use Rattle.numerals.specs.contracts.header_at as header_at
@@ -214,23 +216,30 @@ finish-settled M 𝓤 𝓛 mem run κs a g =
           (ap (λ (w : Finished). (tt, (tt, (tt, (w.clauses.literals, (w.clauses.occurrence_starts, (w.clauses.occurrences, counted w.moved tt))))))) e));
     }
 
-pub put-byte-settled : Inner put_byte.ended (λ M 𝓤. put_byte.clauses)
-put-byte-settled M 𝓤 𝓛 mem run κs a g = record { one-outcome = λ x y. all_three 𝓤 (λ r p q. let e = meet p q in same (ap (λ s. s.at) e) (ap (λ (s : Page). (s.buffer, (tt, (tt, tt)))) e)) }
+-- a page's place and its bytes, not where they lie
+pub page-new-settled : InnerSeen page-new.ended Page (λ κs a x. page_of x.result) (λ M 𝓤. page-new.clauses)
+page-new-settled M 𝓤 𝓛 mem run κs a g = record { one_seen = λ x y. second 𝓤 _ (λ p q. meet p q) }
 
-pub put-all-settled : Inner put_all_lem.ended (λ M 𝓤. put_all_lem.clauses)
-put-all-settled M 𝓤 𝓛 mem run κs a g = record { one-outcome = λ x y. all_three 𝓤 (λ r p q. let e = meet p q in same (ap (λ s. s.at) e) (ap (λ (s : Page). (s.buffer, (tt, (tt, tt)))) e)) }
+pub page-len-settled : Public page-len.ended (λ M 𝓤. page-len.clauses)
+page-len-settled M 𝓤 𝓛 mem run κs a g = record { asks_nothing = refl; one-outcome = λ x y. both 𝓤 (λ p q. same (meet p q) refl) }
 
-pub put-number-settled : Inner put-number.ended (λ M 𝓤. put-number.clauses)
-put-number-settled M 𝓤 𝓛 mem run κs a g = record { one-outcome = λ x y. all_three 𝓤 (λ r p q. let e = meet p q in same (ap (λ s. s.at) e) (ap (λ (s : Page). (s.buffer, (tt, (tt, tt)))) e)) }
+pub put-byte-settled : InnerSeen put_byte.ended Page (λ κs a x. page_of x.left.0) (λ M 𝓤. put_byte.clauses)
+put-byte-settled M 𝓤 𝓛 mem run κs a g = record { one_seen = λ x y. second 𝓤 _ (λ p q. meet p q) }
 
-pub put-name-settled : Inner put-name.ended (λ M 𝓤. put-name.clauses)
-put-name-settled M 𝓤 𝓛 mem run κs a g = record { one-outcome = λ x y. all_three 𝓤 (λ r p q. let e = meet p q in same (ap (λ s. s.at) e) (ap (λ (s : Page). (s.buffer, (tt, (tt, tt)))) e)) }
+pub put-all-settled : InnerSeen put_all_lem.ended Page (λ κs a x. page_of x.left.0) (λ M 𝓤. put_all_lem.clauses)
+put-all-settled M 𝓤 𝓛 mem run κs a g = record { one_seen = λ x y. second 𝓤 _ (λ p q. meet p q) }
 
-pub put-term-settled : Inner put-term.ended (λ M 𝓤. put-term.clauses)
-put-term-settled M 𝓤 𝓛 mem run κs a g = record { one-outcome = λ x y. all_three 𝓤 (λ r p q. let e = meet p q in same (ap (λ s. s.at) e) (ap (λ (s : Page). (s.buffer, (tt, (tt, (tt, tt))))) e)) }
+pub put-number-settled : InnerSeen put-number.ended Page (λ κs a x. page_of x.left.0) (λ M 𝓤. put-number.clauses)
+put-number-settled M 𝓤 𝓛 mem run κs a g = record { one_seen = λ x y. second 𝓤 _ (λ p q. meet p q) }
 
-pub put-line-settled : Inner put-line.ended (λ M 𝓤. put-line.clauses)
-put-line-settled M 𝓤 𝓛 mem run κs a g = record { one-outcome = λ x y. all_three 𝓤 (λ r p q. let e = meet p q in same (ap (λ s. s.at) e) (ap (λ (s : Page). (s.buffer, (tt, (tt, (tt, tt))))) e)) }
+pub put-name-settled : InnerSeen put-name.ended Page (λ κs a x. page_of x.left.0) (λ M 𝓤. put-name.clauses)
+put-name-settled M 𝓤 𝓛 mem run κs a g = record { one_seen = λ x y. second 𝓤 _ (λ p q. meet p q) }
+
+pub put-term-settled : InnerSeen put-term.ended Page (λ κs a x. page_of x.left.0) (λ M 𝓤. put-term.clauses)
+put-term-settled M 𝓤 𝓛 mem run κs a g = record { one_seen = λ x y. second 𝓤 _ (λ p q. meet p q) }
+
+pub put-line-settled : InnerSeen put-line.ended Page (λ κs a x. page_of x.left.0) (λ M 𝓤. put-line.clauses)
+put-line-settled M 𝓤 𝓛 mem run κs a g = record { one_seen = λ x y. second 𝓤 _ (λ p q. meet p q) }
 
 pub past-comments-settled : Inner past-comments.ended (λ M 𝓤. past-comments.clauses)
 past-comments-settled M 𝓤 𝓛 mem run κs a g = record { one-outcome = λ x y. all_three 𝓤 (λ r p q. same (meet p q) refl) }

@@ -1,37 +1,37 @@
 -- `running_report::found` meets its contract: it is put together from its calls. Assumes nothing.
 use mathlib.Core.Path.{refl}
-use Rattle.pages.proofs.Pieces.{first_fits, onward, ended}
+use borrow.Author.Rules.{rules}
+use Rattle.pages.proofs.Pieces.{handed, first_fits, onward, ended, closed}
 use Rattle.running_report.proofs.Lines.{found_left}
 use Rattle.running_report.proofs.found.Goals as goal
 
-pub put_tour-fourth-requires : goal.put_tour-fourth-requires
-put_tour-fourth-requires c = first_fits (found_left _ _ _ _ _ _ refl c.requires.fits)
+pub put_tour-requires : goal.put_tour-requires
+put_tour-requires c = first_fits (handed c.new-page.ensures.front (found_left _ _ _ _ _ _ refl c.requires.fits))
 
-pub put_line-fifth-requires : goal.put_line-fifth-requires
-put_line-fifth-requires c =
-    let pre = c.requires in
-    first_fits (onward (found_left _ _ _ _ _ _ c.chosen.ensures pre.fits) c.put_tour-fourth.ensures)
+pub put_line-requires : goal.put_line-requires
+put_line-requires c =
+    let left = handed c.new-page.ensures.front (found_left _ _ _ _ _ _ c.chosen.ensures c.requires.fits) in
+    first_fits (onward left c.put_tour.ensures.bytes)
 
-pub put_all-answer-requires : goal.put_all-answer-requires
-put_all-answer-requires c =
-    let pre = c.requires in
-    let left = found_left _ _ _ _ _ _ c.chosen.ensures pre.fits in
-    first_fits (onward (onward left c.put_tour-fourth.ensures) c.put_line-fifth.ensures)
+pub put_all-requires : goal.put_all-requires
+put_all-requires c =
+    let left = handed c.new-page.ensures.front (found_left _ _ _ _ _ _ c.chosen.ensures c.requires.fits) in
+    first_fits (onward (onward left c.put_tour.ensures.bytes) c.put_line.ensures.bytes)
 
-pub put_answer-end-requires : goal.put_answer-end-requires
-put_answer-end-requires c =
-    let pre = c.requires in
-    let left = found_left _ _ _ _ _ _ c.chosen.ensures pre.fits in
-    record { named = pre.named; fits = first_fits (onward (onward (onward left c.put_tour-fourth.ensures) c.put_line-fifth.ensures) c.put_all-answer.ensures) }
+pub put_answer-requires : goal.put_answer-requires
+put_answer-requires c =
+    let left = handed c.new-page.ensures.front (found_left _ _ _ _ _ _ c.chosen.ensures c.requires.fits) in
+    let after = onward (onward (onward left c.put_tour.ensures.bytes) c.put_line.ensures.bytes) c.put_all.ensures.bytes in
+    record { named = c.requires.named; fits = first_fits after }
 
 pub put_byte-requires : goal.put_byte-requires
 put_byte-requires c =
-    let pre = c.requires in
-    let left = found_left _ _ _ _ _ _ c.chosen.ensures pre.fits in
-    first_fits (onward (onward (onward (onward left c.put_tour-fourth.ensures) c.put_line-fifth.ensures) c.put_all-answer.ensures) c.put_answer-end.ensures)
+    let left = handed c.new-page.ensures.front (found_left _ _ _ _ _ _ c.chosen.ensures c.requires.fits) in
+    let after = onward (onward (onward left c.put_tour.ensures.bytes) c.put_line.ensures.bytes) c.put_all.ensures.bytes in
+    first_fits (onward after c.put_answer.ensures.bytes)
 
 pub returns : goal.returns
 returns c =
-    let pre = c.requires in
-    let left = found_left _ _ _ _ _ _ c.chosen.ensures pre.fits in
-    ended (onward (onward (onward (onward (onward left c.put_tour-fourth.ensures) c.put_line-fifth.ensures) c.put_all-answer.ensures) c.put_answer-end.ensures) c.put_byte.ensures)
+    let left = handed c.new-page.ensures.front (found_left _ _ _ _ _ _ c.chosen.ensures c.requires.fits) in
+    let after = onward (onward (onward left c.put_tour.ensures.bytes) c.put_line.ensures.bytes) c.put_all.ensures.bytes in
+    closed c.len.ensures (search rules) (ended (onward (onward after c.put_answer.ensures.bytes) c.put_byte.ensures.bytes))

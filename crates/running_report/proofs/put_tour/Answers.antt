@@ -3,13 +3,13 @@ use mathlib.Core.List.{◌∷◌, []}
 use Rattle.pages.proofs.Pieces.{begun, first_fits, onward, ended}
 use Rattle.running_report.proofs.put_tour.Goals as goal
 
-pub put_line-third-requires : goal.put_line-third-requires
-put_line-third-requires c = first_fits (onward (begun _ (_ ∷ _ ∷ []) _ c.requires) c.put_all-second.ensures)
-
 pub put_line-requires : goal.put_line-requires
-put_line-requires c = first_fits (onward (onward (begun _ (_ ∷ _ ∷ []) _ c.requires) c.put_all-second.ensures) c.put_line-third.ensures)
+put_line-requires c = first_fits (onward (begun _ (_ ∷ _ ∷ []) _ c.requires) c.put_all.ensures.bytes)
 
-pub returns : goal.returns
-returns c =
+pub put_line-requires-2 : goal.put_line-requires-2
+put_line-requires-2 c = first_fits (onward (onward (begun _ (_ ∷ _ ∷ []) _ c.requires) c.put_all.ensures.bytes) c.put_line.ensures.bytes)
+
+pub returns-clause-bytes : goal.returns-clause-bytes
+returns-clause-bytes c =
     let left = begun _ (_ ∷ _ ∷ []) _ c.requires in
-    ended (onward (onward (onward left c.put_all-second.ensures) c.put_line-third.ensures) c.put_line.ensures)
+    ended (onward (onward (onward left c.put_all.ensures.bytes) c.put_line.ensures.bytes) c.put_line-2.ensures.bytes)

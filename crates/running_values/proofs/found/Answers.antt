@@ -1,17 +1,16 @@
 -- `running_values::found` meets its contract: it is put together from its calls. Assumes nothing.
-use Rattle.pages.proofs.Pieces.{first_fits, onward, ended}
+use borrow.Author.Rules.{rules}
+use Rattle.pages.proofs.Pieces.{handed, first_fits, onward, ended, closed}
 use Rattle.running_values.proofs.Lines.{found_left}
 use Rattle.running_values.proofs.found.Goals as goal
 
-pub put_tour-third-requires : goal.put_tour-third-requires
-put_tour-third-requires c = first_fits (found_left _ _ _ c.requires)
-
-pub put_all-fourth-requires : goal.put_all-fourth-requires
-put_all-fourth-requires c = first_fits (onward (found_left _ _ _ c.requires) c.put_tour-third.ensures)
+pub put_tour-requires : goal.put_tour-requires
+put_tour-requires c = first_fits (handed c.new-page.ensures.front (found_left _ _ _ c.requires))
 
 pub put_values-requires : goal.put_values-requires
-put_values-requires c = first_fits (onward (onward (found_left _ _ _ c.requires) c.put_tour-third.ensures) c.put_all-fourth.ensures)
+put_values-requires c = first_fits (onward (handed c.new-page.ensures.front (found_left _ _ _ c.requires)) c.put_tour.ensures.bytes)
 
 pub returns : goal.returns
 returns c =
-    ended (onward (onward (onward (found_left _ _ _ c.requires) c.put_tour-third.ensures) c.put_all-fourth.ensures) c.put_values.ensures)
+    let left = handed c.new-page.ensures.front (found_left _ _ _ c.requires) in
+    closed c.len.ensures (search rules) (ended (onward (onward left c.put_tour.ensures.bytes) c.put_values.ensures.bytes))
