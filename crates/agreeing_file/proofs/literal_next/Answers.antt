@@ -15,5 +15,5 @@ pub returns-then-stands_at : goal.returns-then-stands_at
 unfolding pass_one raised
 returns-then-stands_at c = (sym c.if-stands_at.true ∙ next-is _ _ _ _ _ c.stands_at.ensures c.part-run.ensures, λ e. refl)
 
-pub returns : goal.returns
-returns c = (sym c.if-stands_at.false ∙ next-is _ _ _ _ _ c.stands_at.ensures c.part-run.ensures, λ e. not-both e refl)
+pub returns-else-stands_at : goal.returns-else-stands_at
+returns-else-stands_at c = (sym c.if-stands_at.false ∙ next-is _ _ _ _ _ c.stands_at.ensures c.part-run.ensures, λ e. not-both e refl)
