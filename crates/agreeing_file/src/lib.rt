@@ -186,7 +186,7 @@ fn literal_next(
 {
     let run = tables::part(occurrence_starts, occurrences, l);
     let k = passed[l];
-    if stands_at(run, k as usize, c) {
+    if stands_at(run, usize::from(k), c) {
         passed[l] = k + 1;
         true
     } else {
@@ -207,7 +207,7 @@ fn clause_next(
         × (result ≡ true → passed.new ≡ pass_clause clause.now passed.old) }
 {
     for l in clause {
-        if !literal_next(occurrence_starts, occurrences, passed, *l as usize, c) {
+        if !literal_next(occurrence_starts, occurrences, passed, usize::from(*l), c) {
             return false;
         }
     }
@@ -250,7 +250,7 @@ fn runs_passed(n: Counts, occurrence_starts: &[u16], occurrences: &[u16], passed
 {
     let runs = 2 * (n.terms as usize);
     for l in 0..runs {
-        let k = passed[l] as usize;
+        let k = usize::from(passed[l]);
         let run = tables::part(occurrence_starts, occurrences, l);
         if k < run.len() {
             return false;
