@@ -6,3 +6,4 @@ pub mod Names
 pub mod Matching
 pub mod Left
 pub mod Matched
+pub mod Rising

@@ -22,19 +22,23 @@ unfolding term_of
 term-below T l =
     same_tests _ _ (λ h. lt-ltb l (2 * T) (omega (arith, ltb-true (l / 2) T h))) (λ h. lt-ltb (l / 2) T (omega (arith, ltb-true l (2 * T) h)))
 
--- the three cases of the test of a literal
-module _ (T m l : ℕ) (ms : List ℕ) where
-  pub unknown : T ≤ l / 2 → is_fresh T m l ms ≡ false
+-- the three cases of the test of a literal, whose term is t
+module _ (T m l : ℕ) (ms : List ℕ) {t : ℕ} (e : t ≡ l / 2) where
+  pub unknown : T ≤ t → is_fresh T m l ms ≡ false
   unfolding is_fresh term_of
-  unknown h = rw (le-ltb (l / 2) T h)
+  unknown h = rw (le-ltb (l / 2) T (rw e at h))
 
-  pub repeated : l / 2 < T → get_or ms (l / 2) 0 ≡ m → is_fresh T m l ms ≡ false
+  pub repeated : t < T → get_or ms t 0 ≡ m → is_fresh T m l ms ≡ false
   unfolding is_fresh term_of
-  repeated h e = rw (lt-ltb (l / 2) T h, eq-eqb (get_or ms (l / 2) 0) m e)
+  repeated h q = rw (lt-ltb (l / 2) T (rw e at h), eq-eqb (get_or ms (l / 2) 0) m (rw e at q))
 
-  pub fresh : l / 2 < T → (get_or ms (l / 2) 0 ≡ m → ⊥) → is_fresh T m l ms ≡ true
+  pub fresh : t < T → (get_or ms t 0 ≡ m → ⊥) → is_fresh T m l ms ≡ true
   unfolding is_fresh term_of
-  fresh h n = rw (lt-ltb (l / 2) T h, ne_eqb (get_or ms (l / 2) 0) m n)
+  fresh h n = rw (lt-ltb (l / 2) T (rw e at h), ne_eqb (get_or ms (l / 2) 0) m (rw e at n))
+
+  pub now-marked : set ms t m ≡ mark_term m l ms
+  unfolding mark_term term_of
+  now-marked = rw e refl
 
 -- the two regroupings of tests that one more literal asks for
 mixed : (a b c d : Bool) → ((not a && b) && (not c && d)) ≡ (not (a || c) && (b && d))

@@ -1,35 +1,23 @@
 -- What the tests of the occurrences say, as the code makes them, and that they can be made. Assumes nothing.
-use mathlib.Core.Path.{◌≡◌, refl, ap, sym, ◌∙◌}
+use mathlib.Core.Path.{◌≡◌, ap, sym, ◌∙◌}
 use mathlib.Core.Bool.{Bool, true, false, ◌&&◌}
 use mathlib.Core.List.{List}
 use Prim.Native.Nat.{ℕ, ◌+◌, ◌≤◌, ◌<◌}
 use native.Mathlib.Omega.{arith}
 use lib.ListN.{length, get_or}
 use lib.Dec.{eqb, leb, ltb}
-use borrow.Author.Tests.{eqb-true, eq-eqb, ne_eqb, leb-true, le-leb, lt-leb, ltb-true}
+use borrow.Author.Tests.{eqb-true, eq-eqb, leb-true, le-leb, lt-leb, ltb-true}
 use Rattle.written.specs.Agreement.{part_of}
 use Rattle.laws.proofs.Basics.{both, both_first, both-second}
 use Rattle.laws.proofs.All.{all-below, below_all}
 use Rattle.machine.specs.Cuts.{Cuts}
 use Rattle.agreeing_file.specs.Matching.{never_fall, cuts_right, stands_at, is_next, clause_next, runs_passed, CanPass}
-use Rattle.laws.proofs.Tests.{tested-more, test_fails, tested-all}
+use Rattle.laws.proofs.Tests.{tested-more, test_fails}
 
--- starts that never fall, tested one after another
+-- starts that never fall
 module _ (ss : List ℕ) where
   abbrev rises : ℕ → Bool
   rises k = leb (get_or ss k 0) (get_or ss (k + 1) 0)
-
-  pub falls : (n k : ℕ) → k < n → get_or ss (k + 1) 0 < get_or ss k 0 → false ≡ never_fall n ss
-  unfolding never_fall
-  falls n k l h = test_fails rises n k l (lt-leb _ _ h)
-
-  pub rises-more : (k : ℕ) → never_fall k ss ≡ true → get_or ss k 0 ≤ get_or ss (k + 1) 0 → never_fall (k + 1) ss ≡ true
-  unfolding never_fall
-  rises-more k a h = tested-more rises k a (le-leb _ _ h)
-
-  pub rises-all : (n k : ℕ) → never_fall k ss ≡ true → k ≤ n → n ≤ k → true ≡ never_fall n ss
-  unfolding never_fall
-  rises-all n k a l h = tested-all rises n k a l h
 
   rise-at : (n k : ℕ) → k < n → never_fall n ss ≡ true → get_or ss k 0 ≤ get_or ss (k + 1) 0
   unfolding never_fall
@@ -41,18 +29,6 @@ module _ (ss : List ℕ) where
 
 -- where the test of starts ends, and what it says
 module _ (n L : ℕ) (ss : List ℕ) where
-  pub cuts_first : (get_or ss 0 0 ≡ 0 → ⊥) → false ≡ cuts_right n L ss
-  unfolding cuts_right
-  cuts_first h = rw (ne_eqb _ _ h) refl
-
-  pub cuts-falls : get_or ss 0 0 ≡ 0 → false ≡ never_fall n ss → false ≡ cuts_right n L ss
-  unfolding cuts_right
-  cuts-falls z h = rw (eq-eqb _ _ z, ← h) refl
-
-  pub cuts-last : get_or ss 0 0 ≡ 0 → true ≡ never_fall n ss → eqb (get_or ss n 0) L ≡ cuts_right n L ss
-  unfolding cuts_right
-  cuts-last z h = rw (eq-eqb _ _ z, ← h) refl
-
   pub cuts-yes : n < length ss → cuts_right n L ss ≡ true → Cuts n L ss
   unfolding cuts_right
   cuts-yes size h =
@@ -85,10 +61,6 @@ module _ (os oc ns : List ℕ) where
   unfolding runs_passed
   passed-more l a e h = tested-more is_passed l a (le-leb _ _ (rw e at h))
 
-  pub passed-all : (n l : ℕ) → runs_passed l (part_of os oc) ns ≡ true → l ≤ n → n ≤ l → true ≡ runs_passed n (part_of os oc) ns
-  unfolding runs_passed
-  passed-all n l a b h = tested-all is_passed n l a b h
-
 -- one literal: what was tested of its run, and that its count fits
 pub next-is : (os oc ns : List ℕ) (c l : ℕ) {run : List ℕ} {r : Bool} → r ≡ stands_at run (get_or ns l 0) c → run ≡ part_of os oc l → r ≡ is_next (part_of os oc) c l ns
 unfolding is_next
@@ -110,7 +82,3 @@ module _ {top : ℕ} {os oc ns : List ℕ} {l : ℕ} (p : CanPass top os oc ns l
 module _ (ss ls os oc ns : List ℕ) (c : ℕ) {clause : List ℕ} (e : clause ≡ part_of ss ls c) where
   pub clause-is : {r : Bool} → r ≡ clause_next (part_of os oc) c clause ns → clause_next (part_of os oc) c (part_of ss ls c) ns ≡ r
   clause-is q = sym (q ∙ ap (λ xs. clause_next (part_of os oc) c xs ns) e)
-
-  pub can-clause : {top : ℕ} {ms : List ℕ} → ((k : ℕ) → k < length (part_of ss ls c) → CanPass top os oc ns (get_or (part_of ss ls c) k 0)) → length ms ≡ length ns
-      → (k : ℕ) → k < length clause → CanPass top os oc ms (get_or clause k 0)
-  can-clause h q k l = rw e (can-still (h k (rw e at l)) q)

@@ -28,19 +28,15 @@ fn is_name(x: u64) -> bool
         return false;
     }
     let mut rest = x;
-    let mut left: usize = 8;
-    while 0 < left {
+    for _ in 0..8u32 {
         if rest == 0 {
             return true;
         }
-        if rest % 256 < 33 {
+        let b = (rest % 256) as u8;
+        if !(b'!'..=b'}').contains(&b) {
             return false;
         }
-        if 125 < rest % 256 {
-            return false;
-        }
-        rest = rest / 256;
-        left -= 1;
+        rest /= 256;
     }
     rest == 0
 }
@@ -49,15 +45,7 @@ fn is_name(x: u64) -> bool
 fn names_valid(names: &[u64]) -> bool
     ensures { result ≡ all is_name names.now }
 {
-    let mut i = 0;
-    while i < names.len() {
-        if is_name(names[i]) {
-            i += 1;
-        } else {
-            return false;
-        }
-    }
-    true
+    names.iter().all(|x| is_name(*x))
 }
 
 // No name stands twice, by slots that are empty at first.
@@ -65,15 +53,13 @@ fn names_new(names: &[u64], slots: &mut [u16]) -> bool
     requires { (length names.now ≤ narrow.terms) × Indexed homes narrow.terms [] slots.old }
     ensures { result ≡ differ names.now }
 {
-    let mut i = 0;
-    while i < names.len() {
-        match names::find(names, slots, i, names[i]) {
+    for (i, x) in names.iter().enumerate() {
+        match names::find(names, slots, i, *x) {
             names::Found::At(_) => {
                 return false;
             }
             names::Found::New(s) => {
                 slots[s] = (i + 1) as u16;
-                i += 1;
             }
         }
     }
@@ -96,10 +82,7 @@ fn names_agree(n: Counts, names: &[u64]) -> bool
 {
     let terms = n.terms as usize;
     let known = &names[..terms];
-    if names_valid(known) {
-        return names_differ(known);
-    }
-    false
+    names_valid(known) && names_differ(known)
 }
 
 // Starts begin at 0, rise strictly by clause and end at the literal count.
@@ -107,18 +90,10 @@ fn starts_agree(n: Counts, starts: &[u16]) -> bool
     requires { n.clauses < length starts.now }
     ensures { result ≡ starts_right n.clauses n.literals starts.now }
 {
-    if starts[0] != 0 {
-        return false;
-    }
     let clauses = n.clauses as usize;
-    let mut c = 0;
-    while c < clauses {
-        if starts[c] >= starts[c + 1] {
-            return false;
-        }
-        c += 1;
-    }
-    (starts[clauses] as usize) == (n.literals as usize)
+    starts[0] == 0
+        && starts[..=clauses].is_sorted_by(|a, b| a < b)
+        && u32::from(starts[clauses]) == n.literals
 }
 
 // Each literal's term is one of the terms and does not have the mark; it then gets it.
@@ -127,9 +102,8 @@ fn clause_agrees(terms: usize, clause: &[u16], mark: u16, marks: &mut [u16]) -> 
     ensures { (result ≡ passes (is_fresh terms mark) (mark_term mark) clause.now marks.old)
         × (result ≡ true → marks.new ≡ steps (mark_term mark) clause.now marks.old) }
 {
-    let mut i = 0;
-    while i < clause.len() {
-        let t = (clause[i] / 2) as usize;
+    for l in clause {
+        let t = usize::from(*l / 2);
         if terms <= t {
             return false;
         }
@@ -137,7 +111,6 @@ fn clause_agrees(terms: usize, clause: &[u16], mark: u16, marks: &mut [u16]) -> 
             return false;
         }
         marks[t] = mark;
-        i += 1;
     }
     true
 }
@@ -149,16 +122,13 @@ fn clauses_agree(n: Counts, starts: &[u16], literals: &[u16], marks: &mut [u16])
 {
     let terms = n.terms as usize;
     let clauses = n.clauses as usize;
-    let mut c = 0;
-    while c < clauses {
-        if clause_agrees(
+    for c in 0..clauses {
+        if !clause_agrees(
             terms,
             tables::part(starts, literals, c),
             (c + 1) as u16,
             marks,
         ) {
-            c += 1;
-        } else {
             return false;
         }
     }
@@ -182,12 +152,7 @@ fn file_agrees(n: Counts, names: &[u64], starts: &[u16], literals: &[u16]) -> bo
         && starts_right n.clauses n.literals starts.now
         && literals_right n.terms (clauses_in n.clauses starts.now literals.now)) }
 {
-    if names_agree(n, names) {
-        if starts_agree(n, starts) {
-            return literals_agree(n, starts, literals);
-        }
-    }
-    false
+    names_agree(n, names) && starts_agree(n, starts) && literals_agree(n, starts, literals)
 }
 
 // ---- occurrences
@@ -197,27 +162,14 @@ fn starts_cut(starts: &[u16], parts: usize, end: usize) -> bool
     requires { parts < length starts.now }
     ensures { result ≡ cuts_right parts end starts.now }
 {
-    if starts[0] != 0 {
-        return false;
-    }
-    let mut k = 0;
-    while k < parts {
-        if starts[k] > starts[k + 1] {
-            return false;
-        }
-        k += 1;
-    }
-    (starts[parts] as usize) == end
+    starts[0] == 0 && starts[..=parts].is_sorted() && usize::from(starts[parts]) == end
 }
 
 // Entry k of a run is clause c.
 fn stands_at(run: &[u16], k: usize, c: u16) -> bool
     ensures { result ≡ stands_at run.now k c }
 {
-    if k < run.len() {
-        return run[k] == c;
-    }
-    false
+    k < run.len() && run[k] == c
 }
 
 // Clause c stands next in the run of literal l, and is passed; `passed` counts how many of each run are.
@@ -234,11 +186,12 @@ fn literal_next(
 {
     let run = tables::part(occurrence_starts, occurrences, l);
     let k = passed[l];
-    if stands_at(run, k as usize, c) {
+    if stands_at(run, usize::from(k), c) {
         passed[l] = k + 1;
-        return true;
+        true
+    } else {
+        false
     }
-    false
 }
 
 // Clause c stands next in the run of each of its literals.
@@ -253,17 +206,8 @@ fn clause_next(
     ensures { (result ≡ clause_next (part_of occurrence_starts.now occurrences.now) c clause.now passed.old)
         × (result ≡ true → passed.new ≡ pass_clause clause.now passed.old) }
 {
-    let mut i = 0;
-    while i < clause.len() {
-        if literal_next(
-            occurrence_starts,
-            occurrences,
-            passed,
-            clause[i] as usize,
-            c,
-        ) {
-            i += 1;
-        } else {
+    for l in clause {
+        if !literal_next(occurrence_starts, occurrences, passed, usize::from(*l), c) {
             return false;
         }
     }
@@ -285,17 +229,14 @@ fn clauses_next(
         × (result ≡ true → passed.new ≡ pass_clauses (part_of starts.now literals.now) n.clauses passed.old) }
 {
     let clauses = n.clauses as usize;
-    let mut c = 0;
-    while c < clauses {
-        if clause_next(
+    for c in 0..clauses {
+        if !clause_next(
             tables::part(starts, literals, c),
             occurrence_starts,
             occurrences,
             passed,
             c as u16,
         ) {
-            c += 1;
-        } else {
             return false;
         }
     }
@@ -308,14 +249,12 @@ fn runs_passed(n: Counts, occurrence_starts: &[u16], occurrences: &[u16], passed
     ensures { result ≡ runs_passed (2 * n.terms) (part_of occurrence_starts.now occurrences.now) passed.now }
 {
     let runs = 2 * (n.terms as usize);
-    let mut l = 0;
-    while l < runs {
-        let k = passed[l] as usize;
+    for l in 0..runs {
+        let k = usize::from(passed[l]);
         let run = tables::part(occurrence_starts, occurrences, l);
         if k < run.len() {
             return false;
         }
-        l += 1;
     }
     true
 }
@@ -332,24 +271,22 @@ fn occurrences_agree(
     ensures { result ≡ turned_right n.terms n.literals (clauses_in n.clauses starts.now literals.now)
         occurrence_starts.now occurrences.now }
 {
-    if starts_cut(
+    if !starts_cut(
         occurrence_starts,
         2 * (n.terms as usize),
         n.literals as usize,
     ) {
-        let mut passed = [0u16; 4096];
-        if clauses_next(
-            n,
-            starts,
-            literals,
-            occurrence_starts,
-            occurrences,
-            &mut passed,
-        ) {
-            return runs_passed(n, occurrence_starts, occurrences, &passed);
-        }
+        return false;
     }
-    false
+    let mut passed = [0u16; 4096];
+    clauses_next(
+        n,
+        starts,
+        literals,
+        occurrence_starts,
+        occurrences,
+        &mut passed,
+    ) && runs_passed(n, occurrence_starts, occurrences, &passed)
 }
 
 // ---- the points together
@@ -370,8 +307,6 @@ pub fn clauses_hold(
         && turned_right n.terms n.literals (clauses_in n.clauses starts.now literals.now)
         occurrence_starts.now occurrences.now) }
 {
-    if file_agrees(n, names, starts, literals) {
-        return occurrences_agree(n, starts, literals, occurrence_starts, occurrences);
-    }
-    false
+    file_agrees(n, names, starts, literals)
+        && occurrences_agree(n, starts, literals, occurrence_starts, occurrences)
 }

@@ -15,7 +15,7 @@ fn lower(counts: &mut [u16], k: usize)
     requires { CanLower counts.old k }
     ensures { counts.new ≡ lowered counts.old k }
 {
-    counts[k] = counts[k] - 1;
+    counts[k] -= 1;
 }
 
 // Clause c leaves the uncovered list, and its place becomes v. Gives the list's new number.
@@ -37,20 +37,14 @@ fn leave(list: &mut [u16], places: &mut [u16], number: usize, c: u16, v: u16) ->
 fn pick(k: u16, m: u16, p: usize, v: usize) -> usize
     ensures { result ≡ pick_of k m p v }
 {
-    if k < m {
-        return p;
-    }
-    v
+    if k < m { p } else { v }
 }
 
 // 1 where k is below m, else 0.
 fn below(k: u16, m: u16) -> u16
     ensures { result ≡ below_of k m }
 {
-    if k < m {
-        return 1;
-    }
-    0
+    u16::from(k < m)
 }
 
 // d more at k.
@@ -58,7 +52,7 @@ fn raise_by(counts: &mut [u16], k: usize, d: u16)
     requires { (k < length counts.old) × (get_or counts.old k 0 + d < 65536) }
     ensures { counts.new ≡ set counts.old k (get_or counts.old k 0 + d) }
 {
-    counts[k] = counts[k] + d;
+    counts[k] += d;
 }
 
 // d less at k.
@@ -66,7 +60,7 @@ fn lower_by(counts: &mut [u16], k: usize, d: u16)
     requires { (k < length counts.old) × (d ≤ get_or counts.old k 0) }
     ensures { counts.new ≡ set counts.old k (get_or counts.old k 0 - d) }
 {
-    counts[k] = counts[k] - d;
+    counts[k] -= d;
 }
 
 // Clause c gains a true literal, of term v.
@@ -140,10 +134,8 @@ fn gain_run(
         ≡ steps (gain_one v) run.now (tallies_at trues.old breaks.old list.old places.old number) }
 {
     let mut n = number;
-    let mut i = 0;
-    while i < run.len() {
-        n = gain_one(trues, breaks, list, places, n, v, run[i]);
-        i += 1;
+    for c in run {
+        n = gain_one(trues, breaks, list, places, n, v, *c);
     }
     n
 }
@@ -163,10 +155,8 @@ fn lose_run(
         ≡ steps (lose_one v) run.now (tallies_at trues.old breaks.old list.old places.old number) }
 {
     let mut n = number;
-    let mut i = 0;
-    while i < run.len() {
-        n = lose_one(trues, breaks, list, places, n, v, run[i]);
-        i += 1;
+    for c in run {
+        n = lose_one(trues, breaks, list, places, n, v, *c);
     }
     n
 }
@@ -226,8 +216,7 @@ pub fn flip_all(
         (moving_at values.old trues.old breaks.old list.old places.old number) }
 {
     let mut n = number;
-    let mut k = 0;
-    while k < terms.len() {
+    for v in terms {
         n = flip_term(
             values,
             occurrence_starts,
@@ -237,9 +226,8 @@ pub fn flip_all(
             list,
             places,
             n,
-            terms[k] as usize,
+            *v as usize,
         );
-        k += 1;
     }
     n
 }

@@ -1,11 +1,12 @@
 -- A flip list on walking tables is the written one. Assumes nothing.
-use mathlib.Core.Path.{◌≡◌}
-use mathlib.Core.Bool.{Bool, true}
+use mathlib.Core.Path.{◌≡◌, refl, ap}
+use mathlib.Core.Bool.{Bool, true, ◌&&◌}
 use mathlib.Core.List.{List, [], ◌∷◌}
 use Prim.Native.Nat.{ℕ, ◌<◌}
 use lib.ListN.{length}
 use lib.Dec.{ltb}
 use borrow.Author.Tests.{ltb-true}
+use Rattle.std.specs.List.{list_all}
 use Rattle.written.specs.Lists.{all, steps}
 use Rattle.written.specs.Clauses.{State}
 use Rattle.written.specs.Flips.{flip, flipped}
@@ -56,3 +57,8 @@ flips-kept top (v ∷ ts) s x w g b =
     let l = terms-first v ts s b in
     let k = flips-kept top ts (flip v s) x (flip_term x v w) (flip-walking top s x w g v l) (terms-rest v ts s b) in
     kept_trans (flip-kept top s x w g v l) (rw (turned-length v s.values) at k)
+
+-- the library's test of every entry is the document's
+pub every-entry : (p : ℕ → Bool) (xs : List ℕ) → list_all p xs ≡ all p xs
+every-entry p [] = refl
+every-entry p (x ∷ xs) = ap (λ (b : Bool). p x && b) (every-entry p xs)

@@ -22,38 +22,21 @@ use written::{Counts, Reason, Refusal};
 fn known(list: &[u16], terms: u32) -> bool
     ensures { result ≡ all (λ v. ltb v terms) list.now }
 {
-    let mut i = 0;
-    while i < list.len() {
-        if (list[i] as usize) >= (terms as usize) {
-            return false;
-        }
-        i += 1;
-    }
-    true
+    list.iter().all(|v| u32::from(*v) < terms)
 }
 
 // The term t has no mark; past the marks none has one.
 fn is_free(marks: &[u8], t: usize) -> bool
     ensures { result ≡ is_free marks.now t }
 {
-    if t < marks.len() {
-        return marks[t] == 0;
-    }
-    true
+    marks.get(t).is_none_or(|m| *m == 0)
 }
 
 // The whole list names free terms.
 fn free(list: &[u16], marks: &[u8]) -> bool
     ensures { result ≡ all (is_free marks.now) list.now }
 {
-    let mut i = 0;
-    while i < list.len() {
-        if !is_free(marks, list[i] as usize) {
-            return false;
-        }
-        i += 1;
-    }
-    true
+    list.iter().all(|v| is_free(marks, usize::from(*v)))
 }
 
 // The tests of the list's terms, in their order: 13, then 20. The whole list is looked at before any flip.

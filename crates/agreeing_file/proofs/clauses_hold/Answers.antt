@@ -16,6 +16,6 @@ pub returns-then-file_agrees : goal.returns-then-file_agrees
 unfolding file_right
 returns-then-file_agrees c = rw (← c.file_agrees.ensures, c.if-file_agrees.true) c.occurrences_agree.ensures
 
-pub returns : goal.returns
+pub returns-else-file_agrees : goal.returns-else-file_agrees
 unfolding file_right
-returns c = rw (← c.file_agrees.ensures, c.if-file_agrees.false)
+returns-else-file_agrees c = rw (← c.file_agrees.ensures, c.if-file_agrees.false)

@@ -11,15 +11,15 @@ loop-c-preserved c =
     let part = c.part.ensures in
     let loop = c.loop-c in (
       call.auto.passed ∙ loop.invariant.0,
-      range-again _ _ _ _ _ _ loop.invariant.1 _ c.loop-c-test.true (clause-is _ _ _ _ _ _ part call.ensures.0 ∙ c.if-clause_next.true)
-          (call.ensures.1 c.if-clause_next.true ∙ ap (λ xs. pass_clause xs loop.passed) part),
+      range-again _ _ _ _ _ _ loop.invariant.1 _ c.loop-c-test.true (clause-is _ _ _ _ _ _ part call.ensures.0 ∙ c.if-not-clause_next.false)
+          (call.ensures.1 c.if-not-clause_next.false ∙ ap (λ xs. pass_clause xs loop.passed) part),
     )
 
-pub returns-else-clause_next : goal.returns-else-clause_next
+pub returns-then-not-clause_next : goal.returns-then-not-clause_next
 unfolding clauses_next
-returns-else-clause_next c = (
+returns-then-not-clause_next c = (
   range-fails _ _ _ _ _ _ c.loop-c.invariant.1 c.loop-c-test.true
-      (clause-is _ _ _ _ _ _ c.part.ensures c.clause_next.ensures.0 ∙ c.if-clause_next.false),
+      (clause-is _ _ _ _ _ _ c.part.ensures c.clause_next.ensures.0 ∙ c.if-not-clause_next.true),
   λ e. not-both e refl,
 )
 

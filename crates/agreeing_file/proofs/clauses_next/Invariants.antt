@@ -1,5 +1,4 @@
 use mathlib.Core.Path.{◌≡◌}
-use Prim.Native.Nat.{◌-◌}
 use lib.ListN.{length}
 use Rattle.written.specs.Lists.{below}
 use Rattle.written.specs.Agreement.{part_of}
@@ -12,6 +11,3 @@ invariant-loop-c l =
     (length l.passed ≡ length l.initial.passed)
     × Passing (λ k ms. clause_next (part_of l.occurrence_starts l.occurrences) k (part_of l.starts l.literals k) ms) (λ k ms. pass_clause (part_of l.starts l.literals k) ms)
     (below l.clauses) l.initial.passed l.c l.passed
-
-abbrev pub decreases-loop-c : goal.decreases-loop-c
-decreases-loop-c l = l.clauses - l.c

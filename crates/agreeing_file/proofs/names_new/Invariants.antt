@@ -1,5 +1,5 @@
 use mathlib.Core.Path.{◌≡◌}
-use Prim.Native.Nat.{◌-◌, ◌≤◌}
+use Prim.Native.Nat.{◌≤◌}
 use lib.ListN.{length, take}
 use Rattle.written.specs.Limits.{narrow}
 use Rattle.machine.specs.Slots.{Indexed}
@@ -8,6 +8,3 @@ use Rattle.agreeing_file.proofs.names_new.Given as goal
 
 abbrev pub invariant-loop-i : goal.invariant-loop-i
 invariant-loop-i l = (l.i ≤ length l.names) × (length l.slots ≡ length l.initial.slots) × Indexed homes narrow.terms (take l.i l.names) l.slots
-
-abbrev pub decreases-loop-i : goal.decreases-loop-i
-decreases-loop-i l = length l.names - l.i

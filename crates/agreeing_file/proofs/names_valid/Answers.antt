@@ -1,20 +1,13 @@
-use mathlib.Core.Path.{sym, ◌∙◌}
-use native.Mathlib.Omega.{arith}
+use mathlib.Core.Path.{◌∙◌}
+use borrow.Author.Rules.{rules}
+use borrow.Author.Tests.{tests}
+use Rattle.std.proofs.lemmas.Iterator.{YieldsList-from_slice}
+use Rattle.std.proofs.lemmas.Iterator.Search.{all_from_yields_List}
 use Rattle.written.specs.Agreement.{is_name}
-use Rattle.laws.proofs.Tests.{all-places, tested-more, test_fails, tested-all}
-use Rattle.agreeing_file.proofs.names_valid.Invariants.{valid}
+use Rattle.agreeing_file.proofs.Names.{every-entry}
 use Rattle.agreeing_file.proofs.names_valid.Goals as goal
-
-pub loop-i-preserved : goal.loop-i-preserved
-loop-i-preserved c =
-    (omega arith, tested-more (valid c.args.names.now) c.loop-i.i c.loop-i.invariant.1 (sym c.is_name.ensures ∙ c.if-is_name.true))
-
-pub returns-else-is_name : goal.returns-else-is_name
-returns-else-is_name c =
-    let xs = c.args.names.now in
-    test_fails (valid xs) _ _ c.loop-i-test.true (sym c.is_name.ensures ∙ c.if-is_name.false) ∙ sym (all-places is_name xs 0)
 
 pub returns : goal.returns
 returns c =
-    let xs = c.args.names.now in
-    tested-all (valid xs) _ _ c.loop-i.invariant.1 c.loop-i.invariant.0 c.loop-i-test.false ∙ sym (all-places is_name xs 0)
+    all_from_yields_List is_name _ _ c.all.result c.all.ensures.ran (YieldsList-from_slice c.args.names.now cc) (λ x b q k. search (rules, tests))
+    ∙ every-entry is_name c.args.names.now

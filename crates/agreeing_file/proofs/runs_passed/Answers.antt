@@ -9,7 +9,7 @@ unfolding runs_passed
 loop-l-init c = (omega arith, refl)
 
 pub returns-then-k-run : goal.returns-then-k-run
-returns-then-k-run c = passed-fails _ _ _ _ _ c.loop-l-test.true c.part-run.ensures c.if-k-run.true
+returns-then-k-run c = passed-fails _ _ _ _ _ c.loop-l-test.true c.part-run.ensures (rw c.from-k.ensures at c.if-k-run.true)
 
 pub loop-l-preserved : goal.loop-l-preserved
-loop-l-preserved c = (omega arith, passed-more _ _ _ _ c.loop-l.invariant.1 c.part-run.ensures c.if-k-run.false)
+loop-l-preserved c = (omega arith, passed-more _ _ _ _ c.loop-l.invariant.1 c.part-run.ensures (rw c.from-k.ensures at c.if-k-run.false))

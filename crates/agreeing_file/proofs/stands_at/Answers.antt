@@ -7,6 +7,6 @@ pub returns-then-k-run : goal.returns-then-k-run
 unfolding stands_at
 returns-then-k-run c = rw (lt-ltb _ _ c.if-k-run.true) refl
 
-pub returns : goal.returns
+pub returns-else-k-run : goal.returns-else-k-run
 unfolding stands_at
-returns c = rw (le-ltb _ _ c.if-k-run.false) refl
+returns-else-k-run c = rw (le-ltb _ _ c.if-k-run.false) refl

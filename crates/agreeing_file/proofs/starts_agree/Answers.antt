@@ -1,28 +1,35 @@
-use native.Mathlib.Omega.{arith}
-use borrow.Author.Tests.{eq-eqb, ne_eqb, lt-ltb, le-ltb}
+use mathlib.Core.Path.{◌≡◌, refl}
+use mathlib.Core.Bool.{◌&&◌}
+use Prim.Native.Nat.{◌+◌}
+use lib.ListN.{get_or}
+use lib.Dec.{eqb, ltb}
+use borrow.Author.Rules.{rules}
+use borrow.Author.Tests.{tests}
+use Rattle.std.proofs.lemmas.List.Sorted.{answers_always}
+use Rattle.written.specs.Lists.{all, below}
 use Rattle.machine.specs.Judging.{starts_right}
-use Rattle.laws.proofs.Tests.{tested-more, test_fails, tested-all}
-use Rattle.agreeing_file.proofs.starts_agree.Invariants.{rises}
+use Rattle.agreeing_file.proofs.Rising.{one-asked, two-asked}
 use Rattle.agreeing_file.proofs.starts_agree.Goals as goal
+use Rattle.agreeing_file.proofs.starts_agree.Goals.{then-starts-eq0, else-starts-eq0}
 
-pub returns-then-starts-ne0 : goal.returns-then-starts-ne0
+pub returns-then-is_sorted_by : goal.returns-then-is_sorted_by
 unfolding starts_right
-returns-then-starts-ne0 c =
-    rw (ne_eqb _ _ c.if-starts-ne0.true)
+returns-then-is_sorted_by c =
+    let ss = c.args.starts.now in
+    let two : c.if-starts-eq0.value ≡ (eqb (get_or ss 0 0) 0 && all (λ k. ltb (get_or ss k 0) (get_or ss (k + 1) 0)) (below c.args.n.clauses)) =
+    elim c.if-starts-eq0.branch [
+      | then-starts-eq0 w ↦ two-asked ltb _ ss c.requires w.if-starts-eq0.true (w.is_sorted_by.ensures.cases ltb (answers_always _ _ _ (λ f a r q k. search (rules, tests)))) w.value-is
+      | else-starts-eq0 w ↦ one-asked ltb _ ss c.requires w.if-starts-eq0.false w.value-is
+    ] in
+    rw (← two, c.if-is_sorted_by.true, c.from.ensures) refl
 
-pub returns-then-starts-c : goal.returns-then-starts-c
+pub returns-else-is_sorted_by : goal.returns-else-is_sorted_by
 unfolding starts_right
-returns-then-starts-c c =
+returns-else-is_sorted_by c =
     let ss = c.args.starts.now in
-    rw (eq-eqb _ 0 c.loop-c.invariant.1, ← test_fails (rises ss) _ _ c.loop-c-test.true (le-ltb _ _ c.if-starts-c.true))
-
-pub loop-c-preserved : goal.loop-c-preserved
-loop-c-preserved c =
-    let ss = c.args.starts.now in
-    (omega arith, c.loop-c.invariant.1, tested-more (rises ss) c.loop-c.c c.loop-c.invariant.2 (lt-ltb _ _ c.if-starts-c.false))
-
-pub returns : goal.returns
-unfolding starts_right
-returns c =
-    let ss = c.args.starts.now in
-    rw (eq-eqb _ 0 c.loop-c.invariant.1, ← tested-all (rises ss) _ _ c.loop-c.invariant.2 c.loop-c.invariant.0 c.loop-c-test.false)
+    let two : c.if-starts-eq0.value ≡ (eqb (get_or ss 0 0) 0 && all (λ k. ltb (get_or ss k 0) (get_or ss (k + 1) 0)) (below c.args.n.clauses)) =
+    elim c.if-starts-eq0.branch [
+      | then-starts-eq0 w ↦ two-asked ltb _ ss c.requires w.if-starts-eq0.true (w.is_sorted_by.ensures.cases ltb (answers_always _ _ _ (λ f a r q k. search (rules, tests)))) w.value-is
+      | else-starts-eq0 w ↦ one-asked ltb _ ss c.requires w.if-starts-eq0.false w.value-is
+    ] in
+    rw (← two, c.if-is_sorted_by.false) refl

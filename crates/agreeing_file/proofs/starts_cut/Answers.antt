@@ -1,21 +1,30 @@
-use mathlib.Core.Path.{refl}
-use native.Mathlib.Omega.{arith}
-use Rattle.agreeing_file.specs.Matching.{never_fall}
-use Rattle.agreeing_file.proofs.Matching.{falls, rises-more, rises-all, cuts_first, cuts-falls, cuts-last}
+use mathlib.Core.Path.{◌≡◌, refl}
+use mathlib.Core.Bool.{◌&&◌}
+use lib.ListN.{get_or}
+use lib.Dec.{eqb, leb}
+use Rattle.agreeing_file.specs.Matching.{cuts_right, never_fall}
+use Rattle.agreeing_file.proofs.Rising.{one-asked, two-asked, not-falling}
 use Rattle.agreeing_file.proofs.starts_cut.Goals as goal
+use Rattle.agreeing_file.proofs.starts_cut.Goals.{then-starts-eq0, else-starts-eq0}
 
-pub returns-then-starts-ne0 : goal.returns-then-starts-ne0
-returns-then-starts-ne0 c = cuts_first _ _ _ c.if-starts-ne0.true
+pub returns-then-is_sorted : goal.returns-then-is_sorted
+unfolding cuts_right never_fall
+returns-then-is_sorted c =
+    let ss = c.args.starts.now in
+    let two : c.if-starts-eq0.value ≡ (eqb (get_or ss 0 0) 0 && never_fall c.args.parts ss) =
+    elim c.if-starts-eq0.branch [
+      | then-starts-eq0 w ↦ two-asked leb _ ss c.requires w.if-starts-eq0.true (not-falling _ _ w.is_sorted.ensures.cases) w.value-is
+      | else-starts-eq0 w ↦ one-asked leb _ ss c.requires w.if-starts-eq0.false w.value-is
+    ] in
+    rw (← two, c.if-is_sorted.true, c.from.ensures) refl
 
-pub loop-k-init : goal.loop-k-init
-unfolding never_fall
-loop-k-init c = (omega arith, c.if-starts-ne0.false, refl)
-
-pub returns-then-starts-k : goal.returns-then-starts-k
-returns-then-starts-k c = cuts-falls _ _ _ c.loop-k.invariant.1 (falls _ _ _ c.loop-k-test.true c.if-starts-k.true)
-
-pub loop-k-preserved : goal.loop-k-preserved
-loop-k-preserved c = let inv = c.loop-k.invariant in (omega arith, inv.1, rises-more _ _ inv.2 c.if-starts-k.false)
-
-pub returns : goal.returns
-returns c = let inv = c.loop-k.invariant in cuts-last _ _ _ inv.1 (rises-all _ _ _ inv.2 inv.0 c.loop-k-test.false)
+pub returns-else-is_sorted : goal.returns-else-is_sorted
+unfolding cuts_right never_fall
+returns-else-is_sorted c =
+    let ss = c.args.starts.now in
+    let two : c.if-starts-eq0.value ≡ (eqb (get_or ss 0 0) 0 && never_fall c.args.parts ss) =
+    elim c.if-starts-eq0.branch [
+      | then-starts-eq0 w ↦ two-asked leb _ ss c.requires w.if-starts-eq0.true (not-falling _ _ w.is_sorted.ensures.cases) w.value-is
+      | else-starts-eq0 w ↦ one-asked leb _ ss c.requires w.if-starts-eq0.false w.value-is
+    ] in
+    rw (← two, c.if-is_sorted.false) refl

@@ -1,12 +1,14 @@
--- `flipping::below` meets its contract: each way out has the test that leads there. Assumes nothing.
-use borrow.Author.Tests.{lt-ltb, le-ltb}
+-- `flipping::below` meets its contract: the test as a number. Assumes nothing.
+use mathlib.Core.Path.{◌≡◌, refl, ◌∙◌}
+use mathlib.Core.Bool.{Bool, true, false, cond}
+use mir.Val.{bool_byte}
 use Rattle.machine.specs.Tallies.{below_of}
 use Rattle.flipping.proofs.below.Goals as goal
 
-pub returns-then-k-m : goal.returns-then-k-m
-unfolding below_of
-returns-then-k-m c = rw (lt-ltb _ _ c.if-k-m.true)
+as-number : (b : Bool) → bool_byte b ≡ cond b 1 0
+as-number true = refl
+as-number false = refl
 
 pub returns : goal.returns
 unfolding below_of
-returns c = rw (le-ltb _ _ c.if-k-m.false)
+returns c = c.from.ensures ∙ as-number _

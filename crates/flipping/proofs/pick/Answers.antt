@@ -7,6 +7,6 @@ pub returns-then-k-m : goal.returns-then-k-m
 unfolding pick_of
 returns-then-k-m c = rw (lt-ltb _ _ c.if-k-m.true)
 
-pub returns : goal.returns
+pub returns-else-k-m : goal.returns-else-k-m
 unfolding pick_of
-returns c = rw (le-ltb _ _ c.if-k-m.false)
+returns-else-k-m c = rw (le-ltb _ _ c.if-k-m.false)
