@@ -188,7 +188,7 @@ pub fn read_as(
             line: 0,
         });
     }
-    tables::clear_bytes(marks, 2048);
+    tables::clear(marks, 2048, 0);
     read_full_as(
         form,
         text,

@@ -1,4 +1,3 @@
--- `tables::all_full` meets its contract: each way out has the tests that lead there. Assumes nothing.
 use mathlib.Core.Path.{refl}
 use Rattle.written.specs.Marks.{marks_full, full_marked}
 use Rattle.tables.proofs.all_full.Goals as goal
@@ -7,6 +6,6 @@ pub returns-then-are_full : goal.returns-then-are_full
 unfolding full_marked marks_full
 returns-then-are_full c = rw (← c.are_full.ensures, c.if-are_full.true) refl
 
-pub returns : goal.returns
+pub returns-else-are_full : goal.returns-else-are_full
 unfolding full_marked
-returns c = rw (← c.are_full.ensures, c.if-are_full.false) refl
+returns-else-are_full c = rw (← c.are_full.ensures, c.if-are_full.false) refl
