@@ -18,13 +18,11 @@ fn trues_agree(n: Counts, values: &[u32], starts: &[u16], literals: &[u16], true
     ensures { result ≡ trues_right n.clauses (values_in n.terms values.now)
         (clauses_in n.clauses starts.now literals.now) trues.now }
 {
-    let mut c: usize = 0;
-    while c < (n.clauses as usize) {
+    for c in 0..(n.clauses as usize) {
         let k = tables::true_count(values, tables::part(starts, literals, c));
-        if (trues[c] as usize) != k {
+        if usize::from(trues[c]) != k {
             return false;
         }
-        c += 1;
     }
     true
 }
@@ -33,13 +31,11 @@ fn trues_agree(n: Counts, values: &[u32], starts: &[u16], literals: &[u16], true
 fn zero_count(counts: &[u16]) -> usize
     ensures { result ≡ count_of 0 counts.now }
 {
-    let mut k: usize = 0;
-    let mut i = 0;
-    while i < counts.len() {
-        k = k + tables::one_for(counts[i], 0);
-        i += 1;
+    let mut zeros: usize = 0;
+    for count in counts {
+        zeros += tables::one_for(*count, 0);
     }
-    k
+    zeros
 }
 
 // The number of uncovered clauses is that of the true counts of 0.
@@ -47,8 +43,7 @@ fn number_agrees(n: Counts, trues: &[u16]) -> bool
     requires { n.clauses ≤ length trues.now }
     ensures { result ≡ eqb n.uncovered (count_of 0 (take n.clauses trues.now)) }
 {
-    let k = zero_count(&trues[..(n.clauses as usize)]);
-    (n.uncovered as usize) == k
+    (n.uncovered as usize) == zero_count(&trues[..(n.clauses as usize)])
 }
 
 // How many clauses of a run have one true literal.
@@ -56,13 +51,11 @@ fn ones_in(trues: &[u16], run: &[u16]) -> usize
     requires { InCounts trues.now run.now }
     ensures { result ≡ ones_in trues.now run.now }
 {
-    let mut k: usize = 0;
-    let mut i = 0;
-    while i < run.len() {
-        k = k + tables::one_for(trues[run[i] as usize], 1);
-        i += 1;
+    let mut ones: usize = 0;
+    for c in run {
+        ones += tables::one_for(trues[usize::from(*c)], 1);
     }
-    k
+    ones
 }
 
 // The break count of term t: how many clauses its true literal alone makes true.
@@ -94,13 +87,11 @@ fn breaks_agree(
     ensures { result ≡ all (break_tested values.now occurrence_starts.now occurrences.now trues.now
         breaks.now) (below n.terms) }
 {
-    let mut t: usize = 0;
-    while t < (n.terms as usize) {
+    for t in 0..(n.terms as usize) {
         let k = break_count(values, occurrence_starts, occurrences, trues, t);
-        if (breaks[t] as usize) != k {
+        if usize::from(breaks[t]) != k {
             return false;
         }
-        t += 1;
     }
     true
 }
@@ -110,14 +101,12 @@ fn place_agrees(n: Counts, trues: &[u16], uncovered: &[u16], places: &[u16], c: 
     requires { (c < length trues.now) × (c < length places.now) × (n.uncovered ≤ length uncovered.now) }
     ensures { result ≡ place_tested n.uncovered trues.now uncovered.now places.now c }
 {
-    let p = places[c] as usize;
+    let p = usize::from(places[c]);
     if trues[c] != 0 {
-        return p == 0;
+        p == 0
+    } else {
+        p < (n.uncovered as usize) && usize::from(uncovered[p]) == c
     }
-    if p < (n.uncovered as usize) {
-        return (uncovered[p] as usize) == c;
-    }
-    false
 }
 
 // Every clause has its place. A list of as many entries as clauses stand uncovered then holds each of these once and no other.
@@ -125,11 +114,8 @@ fn list_agrees(n: Counts, trues: &[u16], uncovered: &[u16], places: &[u16]) -> b
     requires { CanList n.clauses n.uncovered trues.now uncovered.now places.now }
     ensures { result ≡ all (place_tested n.uncovered trues.now uncovered.now places.now) (below n.clauses) }
 {
-    let mut c: usize = 0;
-    while c < (n.clauses as usize) {
-        if place_agrees(n, trues, uncovered, places, c) {
-            c += 1;
-        } else {
+    for c in 0..(n.clauses as usize) {
+        if !place_agrees(n, trues, uncovered, places, c) {
             return false;
         }
     }
@@ -154,12 +140,8 @@ pub fn counts_agree(
     ensures { result ≡ counts_right n values.now starts.now literals.now trues.now breaks.now
         uncovered.now places.now }
 {
-    if trues_agree(n, values, starts, literals, trues) {
-        if breaks_agree(n, values, occurrence_starts, occurrences, trues, breaks) {
-            if number_agrees(n, trues) {
-                return list_agrees(n, trues, uncovered, places);
-            }
-        }
-    }
-    false
+    trues_agree(n, values, starts, literals, trues)
+        && breaks_agree(n, values, occurrence_starts, occurrences, trues, breaks)
+        && number_agrees(n, trues)
+        && list_agrees(n, trues, uncovered, places)
 }

@@ -1,1 +1,2 @@
--- The functions' proofs stand beside their names; the laws they cite are in machine.
+-- The functions' proofs stand beside their names; most laws they cite are in machine.
+pub mod Zeros

@@ -19,40 +19,10 @@ fn all_zero(table: &[u16]) -> bool
     ensures { result ≡ all (λ x. eqb x 0) table.now }
 {
     let mut joined: u16 = 0;
-    let mut i = 0;
-    while i < table.len() {
-        joined = joined | table[i];
-        i += 1;
+    for entry in table {
+        joined |= *entry;
     }
     joined == 0
-}
-
-// Every name is 0.
-fn no_names(names: &[u64]) -> bool
-    ensures { result ≡ all (λ x. eqb x 0) names.now }
-{
-    let mut i = 0;
-    while i < names.len() {
-        if names[i] != 0 {
-            return false;
-        }
-        i += 1;
-    }
-    true
-}
-
-// Every value word is 0.
-fn no_values(words: &[u32]) -> bool
-    ensures { result ≡ all (λ x. eqb x 0) words.now }
-{
-    let mut i = 0;
-    while i < words.len() {
-        if words[i] != 0 {
-            return false;
-        }
-        i += 1;
-    }
-    true
 }
 
 // Of a table of `full` entries, those from `from` on are 0.
@@ -68,7 +38,7 @@ fn names_rest(names: &[u64], from: usize, full: usize) -> bool
     requires { (from ≤ full) × (full ≤ length names.now) }
     ensures { result ≡ rest_right from full names.now }
 {
-    no_names(&names[from..full])
+    names[from..full].iter().all(|name| *name == 0)
 }
 
 // The same of value words.
@@ -76,7 +46,7 @@ fn values_rest(words: &[u32], from: usize, full: usize) -> bool
     requires { (from ≤ full) × (full ≤ length words.now) }
     ensures { result ≡ rest_right from full words.now }
 {
-    no_values(&words[from..full])
+    words[from..full].iter().all(|word| *word == 0)
 }
 
 // The last value word has no bit past the last of n terms.
@@ -84,10 +54,7 @@ fn spare_zero(words: &[u32], n: usize) -> bool
     ensures { result ≡ spare_right n words.now }
 {
     let k = n / 32;
-    if k < words.len() {
-        return (words[k] >> (n % 32)) == 0;
-    }
-    true
+    k >= words.len() || (words[k] >> (n % 32)) == 0
 }
 
 // Past those in use, up to the full size, the names, values, clauses and occurrences are 0.
@@ -167,7 +134,9 @@ pub fn rests_agree(
         && count_rests narrow n trues.now breaks.now uncovered.now places.now
         && spare_right n.terms (take (word_count n.terms) values.now)) }
 {
-    if clause_rests(
+    let terms = n.terms as usize;
+    let words = (terms + 31) / 32;
+    clause_rests(
         n,
         names,
         values,
@@ -175,12 +144,6 @@ pub fn rests_agree(
         literals,
         occurrence_starts,
         occurrences,
-    ) {
-        if count_rests(n, trues, breaks, uncovered, places) {
-            let terms = n.terms as usize;
-            let words = (terms + 31) / 32;
-            return spare_zero(&values[..words], terms);
-        }
-    }
-    false
+    ) && count_rests(n, trues, breaks, uncovered, places)
+        && spare_zero(&values[..words], terms)
 }

@@ -1,17 +1,17 @@
 -- A pass that does not look at what stood writes a list over the table; a table cleared. Assumes nothing.
-use mathlib.Core.Path.{◌≡◌, ap, ◌∙◌, sym}
+use mathlib.Core.Path.{◌≡◌, refl, ap, ◌∙◌, sym}
 use mathlib.Core.List.{List}
 use Prim.Native.Nat.{ℕ, zero, suc, ◌+◌, ◌-◌, ◌≤◌, ◌<◌, min}
 use native.Mathlib.Omega.{arith}
-use lib.ListN.{length, get_or, take, drop, length-replicate, get_or-replicate, take-append-drop, get_or-append}
+use lib.ListN.{length, get_or, take, drop, length-set, length-replicate, get_or-replicate, take-append-drop, get_or-append}
 use lib.Seq.{ext_get_or, set_out, get_or-take, length-take-le}
 use Rattle.written.specs.Lists.{list_of, zeros}
 use Rattle.written.specs.Tables.{over}
 use Rattle.laws.proofs.Basics.{by-lt}
 use Rattle.laws.proofs.Lists.{list_from-length, get_or-list_of, list_of-is, over-length}
 use Rattle.laws.proofs.Padding.{over-past}
-use Rattle.machine.specs.Passes.{up_to, rewritten, zeroed}
-use Rattle.machine.proofs.Rewritten.{length-rewritten, rewritten-at, rewritten-past, rewritten-end}
+use Rattle.machine.specs.Passes.{up_to, rewritten, set_below, zeroed}
+use Rattle.machine.proofs.Rewritten.{length-rewritten, rewritten-at, rewritten-past}
 
 -- each entry below n becomes what its number says
 pub rewritten-over : (f : ℕ → ℕ) (n : ℕ) (xs : List ℕ) → n ≤ length xs → rewritten (λ k p. f k) n xs ≡ over (list_of n f) xs
@@ -26,7 +26,7 @@ rewritten-over f n xs h =
     (λ m. rewritten-past (λ k p. f k) n xs k m ∙ sym (over-past (list_of n f) xs k (omega arith))))
 
 pub zeroed-over : (n : ℕ) (xs : List ℕ) → n ≤ length xs → zeroed n xs ≡ over (zeros n) xs
-unfolding zeroed
+unfolding set_below rewritten
 zeroed-over n xs h =
     rewritten-over (λ k. 0) n xs h
     ∙ ap (λ (t : List ℕ). over t xs) (list_of-is n (λ k. 0) (zeros n) 0 (length-replicate n 0) (λ k l. sym (get_or-replicate n k 0 0 l)))
@@ -40,21 +40,22 @@ zeroed-back n xs ys hx hy z e =
     (λ k l. let m : k < n = omega arith in get_or-replicate n k 0 0 m ∙ sym (get_or-take n ys k 0 m ∙ z k m)) in
     zeroed-over n xs hx ∙ (rw (a, t, e) (take-append-drop n ys))
 
--- nothing is cleared past the end
-zeroed-past : (n : ℕ) (xs : List ℕ) (k : ℕ) → length xs + k ≡ n → zeroed n xs ≡ zeroed (length xs) xs
-unfolding zeroed rewritten up_to
-zeroed-past n xs zero e = ap (λ (m : ℕ). zeroed m xs) (let q : n ≡ length xs = omega arith in q)
-zeroed-past zero xs (suc k) e = absurd (omega arith)
-zeroed-past (suc n) xs (suc k) e =
-    set_out (zeroed n xs) n 0 (omega (arith, length-rewritten (λ i p. 0) n xs)) ∙ zeroed-past n xs k (omega arith)
+-- a table of anything whose front is put to z
+module _ {A : Type 0} (z : A) where
+  pub length-below : (n : ℕ) (xs : List A) → length (set_below z n xs) ≡ length xs
+  unfolding set_below up_to
+  length-below zero xs = refl
+  length-below (suc n) xs = length-set (set_below z n xs) n z ∙ length-below n xs
 
-zeroed-least : (n : ℕ) (xs : List ℕ) → zeroed (min n (length xs)) xs ≡ zeroed n xs
-zeroed-least n xs =
-    by-lt n (length xs) (λ l. ap (λ (m : ℕ). zeroed m xs) (let q : min n (length xs) ≡ n = omega arith in q))
-    (λ l. ap (λ (m : ℕ). zeroed m xs) (let q : min n (length xs) ≡ length xs = omega arith in q)
-    ∙ sym (zeroed-past n xs (n - length xs) (let q : length xs + (n - length xs) ≡ n = omega arith in q)))
+  -- nothing is put past the end
+  below-past : (n : ℕ) (xs : List A) (k : ℕ) → length xs + k ≡ n → set_below z n xs ≡ set_below z (length xs) xs
+  unfolding set_below up_to
+  below-past n xs zero e = ap (λ (m : ℕ). set_below z m xs) (let q : n ≡ length xs = omega arith in q)
+  below-past zero xs (suc k) e = absurd (omega arith)
+  below-past (suc n) xs (suc k) e = set_out (set_below z n xs) n z (omega (arith, length-below n xs)) ∙ below-past n xs k (omega arith)
 
--- a loop that clears, stopped at the end
-pub clear-end : (n last i : ℕ) (xs ys : List ℕ) → ys ≡ rewritten (λ k p. 0) i xs → i ≤ last → last ≤ i → last ≡ min n (length xs) → ys ≡ zeroed n xs
-unfolding zeroed
-clear-end n last i xs ys e l m f = rewritten-end (λ k p. 0) i last xs ys e l m ∙ ap (λ (k : ℕ). zeroed k xs) f ∙ zeroed-least n xs
+  pub below-least : (n : ℕ) (xs : List A) → set_below z (min n (length xs)) xs ≡ set_below z n xs
+  below-least n xs =
+      by-lt n (length xs) (λ l. ap (λ (m : ℕ). set_below z m xs) (let q : min n (length xs) ≡ n = omega arith in q))
+      (λ l. ap (λ (m : ℕ). set_below z m xs) (let q : min n (length xs) ≡ length xs = omega arith in q)
+      ∙ sym (below-past n xs (n - length xs) (let q : length xs + (n - length xs) ≡ n = omega arith in q)))

@@ -16,7 +16,7 @@ use Rattle.laws.proofs.Literals.{value-le}
 use Rattle.machine.specs.Literals.{xor_true}
 use Rattle.machine.specs.Tallies.{Tallies, SameSizes}
 use Rattle.machine.specs.Moving.{Fixed, Moving, moving, View, view, count_at, xor_at}
-use Rattle.machine.specs.Passes.{up_to, zeroed, CanCount, blank, counted, CanRecount, recounted}
+use Rattle.machine.specs.Passes.{up_to, rewritten, set_below, CanCount, blank, counted, CanRecount, recounted}
 use Rattle.machine.specs.Holds.{HoldsValues, HoldsAt, Ready, Walking, Kept}
 use Rattle.machine.proofs.Clause.{one-low}
 use Rattle.machine.proofs.Status.{Standing, status}
@@ -58,7 +58,7 @@ module _ (top : ℕ) (f : File) (vs : List ℕ) (x : Fixed) (w : Moving) (g : Re
   sizes n = counted-sizes read n none
 
   start : Mid none T [] [] none
-  unfolding blank zeroed
+  unfolding blank set_below rewritten
   start =
       record {
         room = omega arith;
@@ -96,7 +96,7 @@ module _ (top : ℕ) (f : File) (vs : List ℕ) (x : Fixed) (w : Moving) (g : Re
     trues-here = let e = (sizes n).trues-size in let r = g.trues-room in omega arith
 
     list-here : n < length (at n).uncovered.list
-    unfolding blank zeroed
+    unfolding blank set_below rewritten
     list-here = let e = (sizes n).list-size in let z = length-rewritten (λ i p. 0) (length cs) w.tallies.uncovered.list in let r = g.list-room in omega arith
 
     places-here : n < length (at n).uncovered.places
@@ -104,7 +104,7 @@ module _ (top : ℕ) (f : File) (vs : List ℕ) (x : Fixed) (w : Moving) (g : Re
     places-here = let e = (sizes n).places-size in let r = g.places-room in omega arith
 
     zero-here : get_or (at n).uncovered.list n 0 ≡ 0
-    unfolding blank zeroed
+    unfolding blank set_below rewritten
     zero-here = m.kept.list-kept n (let e = pre in omega arith) ∙ rewritten-at (λ i p. 0) (length cs) w.tallies.uncovered.list n l g.list-room
 
     low-here : total (value_of vs) (get_or cs n []) ≡ 1 → xor_true (value_of vs) (get_or cs n []) < T
@@ -153,7 +153,7 @@ module _ (top : ℕ) (f : File) (vs : List ℕ) (x : Fixed) (w : Moving) (g : Re
 
   -- what is past the entries in use stays
   blank-kept : Kept (length cs) T w.tallies none
-  unfolding blank zeroed
+  unfolding blank set_below rewritten
   blank-kept =
       record {
         trues-kept = λ j l. refl;

@@ -11,7 +11,7 @@ use Rattle.laws.proofs.Basics.{by_cases}
 use Rattle.machine.specs.Uncovered.{leaves, marks, enters}
 use Rattle.machine.specs.Tallies.{Tallies, raised, lowered, gain_breaks, gain_one, lose_breaks, lose_one, SameSizes}
 use Rattle.machine.specs.Moving.{Fixed, Moving, View, count_at, up_of, down_of, gained, lost, flip_term}
-use Rattle.machine.specs.Passes.{up_to, zeroed, opened, closed, count_one, blank, counted, recounted}
+use Rattle.machine.specs.Passes.{up_to, rewritten, set_below, opened, closed, count_one, blank, counted, recounted}
 use Rattle.machine.proofs.Rewritten.{length-rewritten}
 
 pub sizes-refl : (t : Tallies) → SameSizes t t
@@ -97,9 +97,9 @@ unfolding closed
 closed-sizes n w = record { trues-size = refl; breaks-size = refl; list-size = refl; places-size = length-rewritten _ n w.tallies.uncovered.places }
 
 pub blank-sizes : (C T : ℕ) (t : Tallies) → SameSizes (blank C T t) t
-unfolding blank zeroed
+unfolding blank set_below rewritten
 blank-sizes C T t =
-    record { trues-size = refl; breaks-size = length-rewritten _ T t.breaks; list-size = length-rewritten _ C t.uncovered.list; places-size = refl }
+    record { trues-size = refl; breaks-size = length-rewritten (λ i p. 0) T t.breaks; list-size = length-rewritten (λ i p. 0) C t.uncovered.list; places-size = refl }
 
 pub recounted-sizes : (C T : ℕ) (x : Fixed) (w : Moving) → SameSizes (recounted C T x w).tallies w.tallies
 unfolding recounted

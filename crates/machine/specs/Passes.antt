@@ -15,9 +15,13 @@ up_to g (suc n) s = g n (up_to g n s)
 unfoldable pub rewritten : (ℕ → ℕ → ℕ) → ℕ → List ℕ → List ℕ
 rewritten h n ps = up_to (λ c qs. set qs c (h c (get_or qs c 0))) n ps
 
+-- the entries below n made z
+unfoldable pub set_below : {A : Type 0} → A → ℕ → List A → List A
+set_below z n xs = up_to (λ i ys. set ys i z) n xs
+
 -- the entries below n made 0
-unfoldable pub zeroed : ℕ → List ℕ → List ℕ
-zeroed n xs = rewritten (λ i p. 0) n xs
+abbrev pub zeroed : ℕ → List ℕ → List ℕ
+zeroed n xs = set_below 0 n xs
 
 -- ---- opening and closing
 

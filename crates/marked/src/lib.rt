@@ -20,17 +20,12 @@ use written::Counts;
 fn mark_holds(mark: u8, values: &[u32], t: usize) -> bool
     ensures { result ≡ as_marked mark (bit_at values.now t) }
 {
-    if mark == 0 {
-        return true;
+    match mark {
+        0 => true,
+        1 => words::value(values, t) == 0,
+        2 => words::value(values, t) == 1,
+        _ => false,
     }
-    if mark > 2 {
-        return false;
-    }
-    let v = words::value(values, t);
-    if mark == 1 {
-        return v == 0;
-    }
-    v == 1
 }
 
 // Each mark of a term goes with the term's value.
@@ -38,12 +33,10 @@ fn marks_hold(terms: usize, values: &[u32], marks: &[u8]) -> bool
     requires { terms ≤ length marks.now }
     ensures { result ≡ marks_hold marks.now (list_of terms (bit_at values.now)) }
 {
-    let mut t = 0;
-    while t < terms {
+    for t in 0..terms {
         if !mark_holds(marks[t], values, t) {
             return false;
         }
-        t += 1;
     }
     true
 }
@@ -53,10 +46,8 @@ fn no_marks(marks: &[u8]) -> bool
     ensures { result ≡ all (λ m. eqb m 0) marks.now }
 {
     let mut joined: u8 = 0;
-    let mut i = 0;
-    while i < marks.len() {
-        joined = joined | marks[i];
-        i += 1;
+    for mark in marks {
+        joined |= *mark;
     }
     joined == 0
 }
@@ -74,10 +65,7 @@ fn marks_agree(n: Counts, values: &[u32], marks: &[u8]) -> bool
     requires { (n.terms ≤ 2048) × (2048 ≤ length marks.now) }
     ensures { result ≡ (marks_hold marks.now (list_of n.terms (bit_at values.now)) && marks_rest narrow n marks.now) }
 {
-    if marks_hold(n.terms as usize, values, marks) {
-        return marks_rest(n, marks);
-    }
-    false
+    marks_hold(n.terms as usize, values, marks) && marks_rest(n, marks)
 }
 
 // ---- all together
@@ -87,11 +75,5 @@ pub fn agrees(n: Counts, tables: Tables, marks: &[u8]) -> bool
     ensures { result ≡ (full_marked narrow (seen tables.entry) marks.now
         && agree_marked narrow n (seen tables.entry) marks.now) }
 {
-    if marks.len() < 2048 {
-        return false;
-    }
-    if agreeing::agrees(n, tables) {
-        return marks_agree(n, tables.values, marks);
-    }
-    false
+    marks.len() >= 2048 && agreeing::agrees(n, tables) && marks_agree(n, tables.values, marks)
 }

@@ -18,10 +18,8 @@ fn count(literals: &[u16], counts: &mut [u16])
     requires { CanSteps (CanTally 65536) tally literals.now counts.old }
     ensures { counts.new ≡ steps tally literals.now counts.old }
 {
-    let mut i = 0;
-    while i < literals.len() {
-        tables::raise(counts, literals[i] as usize);
-        i += 1;
+    for l in literals {
+        tables::raise(counts, usize::from(*l));
     }
 }
 
@@ -31,11 +29,9 @@ fn sums(counts: &[u16], starts: &mut [u16], n: usize)
     ensures { starts.new ≡ summed n counts.now starts.old }
 {
     let mut at: u16 = 0;
-    let mut l = 0;
-    while l < n {
+    for l in 0..n {
         starts[l] = at;
-        at = at + counts[l];
-        l += 1;
+        at += counts[l];
     }
     starts[n] = at;
 }
@@ -49,7 +45,7 @@ fn start_runs(literals: &[u16], starts: &mut [u16], cursors: &mut [u16], n: usiz
 {
     count(literals, cursors);
     sums(cursors, starts, n);
-    tables::clear(cursors, n);
+    tables::clear(cursors, n, 0);
 }
 
 // Clause c stands at place k of a run.
@@ -72,9 +68,9 @@ fn put_one(
     ensures { filling occurrences.new cursors.new
         ≡ put_one occurrence_starts.now c l (filling occurrences.old cursors.old) }
 {
-    let from = occurrence_starts[l] as usize;
-    let to = occurrence_starts[l + 1] as usize;
-    let k = cursors[l] as usize;
+    let from = usize::from(occurrence_starts[l]);
+    let to = usize::from(occurrence_starts[l + 1]);
+    let k = usize::from(cursors[l]);
     put(&mut occurrences[from..to], k, c);
     tables::raise(cursors, l);
 }
@@ -92,16 +88,8 @@ fn put_clause(
     ensures { filling occurrences.new cursors.new
         ≡ steps (put_one occurrence_starts.now c) clause.now (filling occurrences.old cursors.old) }
 {
-    let mut i = 0;
-    while i < clause.len() {
-        put_one(
-            occurrence_starts,
-            occurrences,
-            cursors,
-            c,
-            clause[i] as usize,
-        );
-        i += 1;
+    for l in clause {
+        put_one(occurrence_starts, occurrences, cursors, c, usize::from(*l));
     }
 }
 
@@ -119,8 +107,7 @@ fn put_all(
         ≡ up_to (put_clause starts.now literals.now occurrence_starts.now) clauses
         (filling occurrences.old cursors.old) }
 {
-    let mut c = 0;
-    while c < clauses {
+    for c in 0..clauses {
         put_clause(
             tables::part(starts, literals, c),
             occurrence_starts,
@@ -128,7 +115,6 @@ fn put_all(
             cursors,
             c as u16,
         );
-        c += 1;
     }
 }
 
@@ -159,5 +145,5 @@ pub fn turn_round(
         occurrences,
         cursors,
     );
-    tables::clear(cursors, runs);
+    tables::clear(cursors, runs, 0);
 }

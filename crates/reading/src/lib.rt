@@ -142,7 +142,7 @@ pub fn read(
             line: 0,
         });
     }
-    tables::clear_bytes(marks, 2048);
+    tables::clear(marks, 2048, 0);
     read_full(
         form,
         text,

@@ -40,11 +40,11 @@ pub fn clear_draft(
     ensures { desk_at names.new starts.new literals.new stamps.new slots.new
         ≡ wiped narrow (desk_at names.old starts.old literals.old stamps.old slots.old) }
 {
-    tables::clear_names(names, 2048);
-    tables::clear(starts, 8193);
-    tables::clear(literals, 16384);
-    tables::clear(stamps, 2048);
-    tables::clear(slots, 8192);
+    tables::clear(names, 2048, 0);
+    tables::clear(starts, 8193, 0);
+    tables::clear(literals, 16384, 0);
+    tables::clear(stamps, 2048, 0);
+    tables::clear(slots, 8192, 0);
 }
 
 // The tables that a draft does not use, to 0.
@@ -58,11 +58,11 @@ pub fn clear_others(
     ensures { others_at values.new occurrence_starts.new occurrences.new trues.new uncovered.new
         ≡ wiped_others narrow (others_at values.old occurrence_starts.old occurrences.old trues.old uncovered.old) }
 {
-    tables::clear_words(values, 64);
-    tables::clear(occurrence_starts, 4097);
-    tables::clear(occurrences, 16384);
-    tables::clear(trues, 8192);
-    tables::clear(uncovered, 8192);
+    tables::clear(values, 64, 0);
+    tables::clear(occurrence_starts, 4097, 0);
+    tables::clear(occurrences, 16384, 0);
+    tables::clear(trues, 8192, 0);
+    tables::clear(uncovered, 8192, 0);
 }
 
 // The entries from a place up to n become 0.
@@ -102,8 +102,8 @@ pub fn finish(
     let terms = p.terms;
     let clauses = p.clauses;
     clear_rest(literals, p.from, 16384);
-    tables::clear(breaks, 2048); // the stamps
-    tables::clear(places, 8192); // the slots
+    tables::clear(breaks, 2048, 0); // the stamps
+    tables::clear(places, 8192, 0); // the slots
     let n = Counts {
         terms: terms as u32,
         clauses: clauses as u32,

@@ -22,10 +22,9 @@ fn open_one(
         ≡ set places.old c (walk_place (view values.now starts.now literals.now) trues.now c
         (get_or places.old c 0)) }
 {
-    if trues[c] == 0 {
-        return;
+    if trues[c] != 0 {
+        places[c] = tables::xor_true(values, tables::part(starts, literals, c));
     }
-    places[c] = tables::xor_true(values, tables::part(starts, literals, c));
 }
 
 // The places of written tables made those for walking.
@@ -42,10 +41,8 @@ pub fn open_all(
         ≡ rewritten (walk_place (view values.now starts.now literals.now) trues.now) clauses
         places.old }
 {
-    let mut c = 0;
-    while c < clauses {
+    for c in 0..clauses {
         open_one(c, values, starts, literals, trues, places);
-        c += 1;
     }
 }
 
@@ -54,10 +51,9 @@ fn close_one(c: usize, trues: &[u16], places: &mut [u16])
     requires { (c < length trues.now) × (c < length places.old) }
     ensures { places.new ≡ set places.old c (rest_place trues.now c (get_or places.old c 0)) }
 {
-    if trues[c] == 0 {
-        return;
+    if trues[c] != 0 {
+        places[c] = 0;
     }
-    places[c] = 0;
 }
 
 // The places for walking made those of written tables.
@@ -65,10 +61,8 @@ pub fn close_all(clauses: usize, trues: &[u16], places: &mut [u16])
     requires { CanClose clauses trues.now places.old }
     ensures { places.new ≡ rewritten (rest_place trues.now) clauses places.old }
 {
-    let mut c = 0;
-    while c < clauses {
+    for c in 0..clauses {
         close_one(c, trues, places);
-        c += 1;
     }
 }
 
@@ -98,8 +92,7 @@ fn count_one(
     let x = tables::xor_true(values, clause);
     places[c] = x;
     if k == 1 {
-        tables::raise(breaks, x as usize);
-        return number;
+        tables::raise(breaks, usize::from(x));
     }
     number
 }
@@ -121,12 +114,10 @@ fn count_all(
         (tallies_at trues.old breaks.old list.old places.old 0) }
 {
     let mut number = 0;
-    let mut c = 0;
-    while c < clauses {
+    for c in 0..clauses {
         number = count_one(
             c, values, starts, literals, trues, breaks, list, places, number,
         );
-        c += 1;
     }
     number
 }
@@ -148,8 +139,8 @@ pub fn count_afresh(
         ≡ counted clauses (view values.now starts.now literals.now)
         (blank clauses terms (tallies_at trues.old breaks.old list.old places.old 0)) }
 {
-    tables::clear(breaks, terms);
-    tables::clear(list, clauses);
+    tables::clear(breaks, terms, 0);
+    tables::clear(list, clauses, 0);
     count_all(
         clauses, values, starts, literals, trues, breaks, list, places,
     )

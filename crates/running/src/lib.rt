@@ -43,14 +43,14 @@ fn begin(
         Outset::Long(e) => {
             reading_end::clear_draft(names, starts, literals, breaks, places);
             reading_end::clear_others(values, occurrence_starts, occurrences, trues, uncovered);
-            tables::clear_bytes(marks, 2048);
+            tables::clear(marks, 2048, 0);
             running_forms::refusal(form, out, e)
         }
         Outset::Refused(e) => running_forms::refusal(form, out, e),
         Outset::Begins(s) => {
             let order = s.order;
             let at = s.at as usize;
-            tables::clear_bytes(marks, 2048);
+            tables::clear(marks, 2048, 0);
             running_text::read_on(
                 form,
                 order,

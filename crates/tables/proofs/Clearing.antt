@@ -1,25 +1,27 @@
--- A loop that clears a table from its start on: its invariant, and that it holds at first, again and at the end. One law for every width. Assumes nothing.
-use mathlib.Core.Path.{◌≡◌, refl, ◌∙◌}
-use mathlib.Core.List.{List}
-use Prim.Native.Nat.{ℕ, ◌+◌, ◌<◌, ◌≤◌, min, zero-le}
+-- A loop that writes one value into the front of a table: its invariant, and what stands at the end. One law for every width. Assumes nothing.
+use mathlib.Core.Path.{◌≡◌, refl, ap, ◌∙◌, sym}
+use mathlib.Core.List.{List, ◌++◌}
+use Prim.Native.Nat.{ℕ, zero, suc, ◌≤◌, min}
 use native.Mathlib.Omega.{arith}
-use lib.ListN.{length, set, length-set}
-use Rattle.machine.specs.Passes.{rewritten, zeroed}
-use Rattle.machine.proofs.Rewritten.{rewritten-none, rewritten-more}
-use Rattle.machine.proofs.Cleared.{clear-end}
+use lib.ListN.{length, set, take, drop}
+use lib.Seq.{length-take-le}
+use Rattle.std.proofs.lemmas.List.{set-append_left, take-append-drop}
+use Rattle.machine.specs.Passes.{up_to, set_below}
+use Rattle.machine.proofs.Cleared.{length-below, below-least}
 
-module _ (xs : List ℕ) (last : ℕ) where
-  -- the first i entries are cleared, of those up to `last`
-  pub record Clearing (i : ℕ) (ys : List ℕ) : Type 0 where
-    pub below : i ≤ last
-    pub done : ys ≡ rewritten (λ j p. 0) i xs
-    pub size : length ys ≡ length xs
+module _ {A : Type 0} (z : A) where
+  -- written in a front part, it is written in the whole
+  front : (i : ℕ) (xs ys : List A) → i ≤ length xs → set_below z i xs ++ ys ≡ set_below z i (xs ++ ys)
+  unfolding set_below up_to
+  front zero xs ys l = refl
+  front (suc i) xs ys l =
+      sym (set-append_left (set_below z i xs) ys i z (omega (arith, length-below z i xs)))
+      ∙ ap (λ (t : List A). set t i z) (front i xs ys (omega arith))
 
-  pub clear-begun : Clearing 0 xs
-  clear-begun = record { below = zero-le; done = rewritten-none _ xs; size = refl }
-
-  pub clear-more : (i : ℕ) (ys : List ℕ) → Clearing i ys → i < last → Clearing (i + 1) (set ys i 0)
-  clear-more i ys s l = record { below = omega arith; done = rewritten-more _ i xs ys _ s.done refl; size = length-set ys i 0 ∙ s.size }
-
-  pub clear-done : (n i : ℕ) (ys : List ℕ) → Clearing i ys → last ≤ i → last ≡ min n (length xs) → ys ≡ zeroed n xs
-  clear-done n i ys s l e = clear-end n last i xs ys s.done s.below l e
+  -- the loop, which has come to the end of the front part
+  pub front-end : (n last i : ℕ) (xs ys : List A) → last ≡ min n (length xs) → ys ≡ set_below z i (take last xs) → i ≤ length (take last xs)
+      → length (take last xs) ≤ i → ys ++ drop last xs ≡ set_below z n xs
+  front-end n last i xs ys e f l m =
+      let s = length-take-le last xs (omega arith) in
+      let q : i ≡ min n (length xs) = omega arith in
+      rw (f, front i (take last xs) (drop last xs) l, take-append-drop last xs, q) (below-least z n xs)

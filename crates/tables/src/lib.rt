@@ -11,7 +11,7 @@ ghost use Rattle.written.specs.Marks.{full_marked};
 ghost use Rattle.written.specs.Agreement.{part_of};
 ghost use Rattle.machine.specs.Literals.{value_in, term_if, xor_true};
 ghost use Rattle.machine.specs.Moving.{CanPart};
-ghost use Rattle.machine.specs.Passes.{zeroed};
+ghost use Rattle.machine.specs.Passes.{set_below};
 ghost use Rattle.machine.specs.Tallies.{raised, hit_of, CanRaise};
 ghost use Rattle.machine.specs.Uncovered.{uncovered, enters, CanEnter};
 
@@ -67,20 +67,18 @@ impl Tables<'_> {
 fn literal_value(words: &[u32], l: u16) -> u32
     ensures { result ≡ value_in words.now l }
 {
-    (words::value(words, (l / 2) as usize) + ((l % 2) as usize as u32)) % 2
+    (words::value(words, usize::from(l / 2)) + u32::from(l % 2)) % 2
 }
 
 // How many literals of a clause are true.
 pub fn true_count(words: &[u32], clause: &[u16]) -> usize
     ensures { result ≡ total (value_in words.now) clause.now }
 {
-    let mut k: usize = 0;
-    let mut i = 0;
-    while i < clause.len() {
-        k = k + (literal_value(words, clause[i]) as usize);
-        i += 1;
+    let mut count: usize = 0;
+    for l in clause {
+        count += literal_value(words, *l) as usize;
     }
-    k
+    count
 }
 
 // The term of a literal that is true, else 0.
@@ -88,32 +86,28 @@ fn term_if(words: &[u32], l: u16) -> u16
     ensures { result ≡ term_if (value_in words.now) l }
 {
     if literal_value(words, l) == 1 {
-        return l / 2;
+        l / 2
+    } else {
+        0
     }
-    0
 }
 
 // The terms of a clause's true literals, all xored.
 pub fn xor_true(words: &[u32], clause: &[u16]) -> u16
     ensures { result ≡ xor_true (value_in words.now) clause.now }
 {
-    let mut x: u16 = 0;
-    let mut i = 0;
-    while i < clause.len() {
-        x = x ^ term_if(words, clause[i]);
-        i += 1;
+    let mut terms: u16 = 0;
+    for l in clause {
+        terms ^= term_if(words, *l);
     }
-    x
+    terms
 }
 
 // 1 for a count of m, else 0: no jump need be made on it.
 pub fn one_for(count: u16, m: u16) -> usize
     ensures { result ≡ hit_of count m }
 {
-    if count == m {
-        return 1;
-    }
-    0
+    usize::from(count == m)
 }
 
 // Part k of the items, by the starts.
@@ -121,8 +115,8 @@ pub fn part<'a>(starts: &[u16], items: &'a [u16], k: usize) -> &'a [u16]
     requires { CanPart starts.now items.now k }
     ensures { result.now ≡ part_of starts.now items.now k }
 {
-    let from = starts[k] as usize;
-    let to = starts[k + 1] as usize;
+    let from = usize::from(starts[k]);
+    let to = usize::from(starts[k + 1]);
     &items[from..to]
 }
 
@@ -133,7 +127,7 @@ pub fn raise(counts: &mut [u16], k: usize)
     requires { CanRaise 65536 counts.old k }
     ensures { counts.new ≡ raised counts.old k }
 {
-    counts[k] = counts[k] + 1;
+    counts[k] += 1;
 }
 
 // Clause c put at the end of the uncovered list; the new number of its entries.
@@ -142,54 +136,16 @@ pub fn enter(list: &mut [u16], places: &mut [u16], number: usize, c: u16) -> usi
     ensures { uncovered list.new places.new result ≡ enters c (uncovered list.old places.old number) }
 {
     list[number] = c;
-    places[c as usize] = number as u16;
+    places[usize::from(c)] = number as u16;
     number + 1
 }
 
-// The first n entries become 0, all of them in a shorter table.
-pub fn clear(table: &mut [u16], n: usize)
-    ensures { table.new ≡ zeroed n table.old }
+// The first n entries become zero, all of them in a shorter table.
+pub fn clear<T: Copy>(table: &mut [T], n: usize, zero: T)
+    ensures { table.new ≡ set_below zero n table.old }
 {
-    let last = words::least(n, table.len());
-    let mut i = 0;
-    while i < last {
-        table[i] = 0;
-        i += 1;
-    }
-}
-
-// The same for a table of words.
-pub fn clear_words(words: &mut [u32], n: usize)
-    ensures { words.new ≡ zeroed n words.old }
-{
-    let last = words::least(n, words.len());
-    let mut i = 0;
-    while i < last {
-        words[i] = 0;
-        i += 1;
-    }
-}
-
-// The same for a table of names.
-pub fn clear_names(names: &mut [u64], n: usize)
-    ensures { names.new ≡ zeroed n names.old }
-{
-    let last = words::least(n, names.len());
-    let mut i = 0;
-    while i < last {
-        names[i] = 0;
-        i += 1;
-    }
-}
-
-// The same for a table of bytes.
-pub fn clear_bytes(bytes: &mut [u8], n: usize)
-    ensures { bytes.new ≡ zeroed n bytes.old }
-{
-    let last = words::least(n, bytes.len());
-    let mut i = 0;
-    while i < last {
-        bytes[i] = 0;
-        i += 1;
+    let last = n.min(table.len());
+    for entry in &mut table[..last] {
+        *entry = zero;
     }
 }

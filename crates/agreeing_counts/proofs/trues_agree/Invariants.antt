@@ -1,13 +1,9 @@
 use mathlib.Core.Path.{◌≡◌}
 use mathlib.Core.Bool.{true}
-use Prim.Native.Nat.{◌-◌, ◌≤◌}
 use Rattle.written.specs.Lists.{all, below}
 use Rattle.machine.specs.Moving.{view}
 use Rattle.machine.specs.Tested.{true_tested}
 use Rattle.agreeing_counts.proofs.trues_agree.Given as goal
 
 abbrev pub invariant-loop-c : goal.invariant-loop-c
-invariant-loop-c l = (l.c ≤ l.n.clauses) × (all (true_tested (view l.values l.starts l.literals) l.trues) (below l.c) ≡ true)
-
-abbrev pub decreases-loop-c : goal.decreases-loop-c
-decreases-loop-c l = l.n.clauses - l.c
+invariant-loop-c l = all (true_tested (view l.values l.starts l.literals) l.trues) (below l.c) ≡ true

@@ -2,8 +2,8 @@
 use Rattle.machine.proofs.Rest.{one-joined, all-joined}
 use Rattle.agreeing_rest.proofs.all_zero.Goals as goal
 
-pub loop-i-preserved : goal.loop-i-preserved
-loop-i-preserved c = one-joined _ _ _ c.loop-i.invariant c.loop-i-test.true
+pub loop-entry-preserved : goal.loop-entry-preserved
+loop-entry-preserved c = one-joined _ _ _ c.loop-entry.invariant c.loop-entry-test.true
 
 pub returns : goal.returns
-returns c = all-joined _ _ _ c.loop-i.invariant c.loop-i-test.false
+returns c = all-joined _ _ _ c.loop-entry.invariant c.loop-entry-test.false

@@ -1,5 +1,5 @@
 -- `agreeing_rest::rests_agree` meets its contract: each way out has the tests that lead there. Assumes nothing.
-use mathlib.Core.Path.{sym}
+use mathlib.Core.Path.{refl, sym}
 use native.Mathlib.Omega.{arith}
 use lib.Seq.{length-take-le}
 use Rattle.words.specs.Words.{word_count}
@@ -8,6 +8,7 @@ use Rattle.written.specs.Tables.{sizes, full_sizes}
 use Rattle.laws.proofs.Each.{Names, Values, Starts, Literals, OccurrenceStarts, Occurrences, Trues, Breaks, Uncovered, Places}
 use Rattle.machine.proofs.File.{rooms, counts-fit}
 use Rattle.agreeing_rest.proofs.rests_agree.Goals as goal
+use Rattle.agreeing_rest.proofs.rests_agree.Goals.{then-clause_rests, else-clause_rests}
 
 pub clause_rests-requires : goal.clause_rests-requires
 unfolding full_sizes sizes word_count
@@ -34,4 +35,14 @@ slice_bounds-spare_zero-end c =
 pub returns-then-count_rests : goal.returns-then-count_rests
 unfolding word_count
 returns-then-count_rests c =
-    rw (← c.clause_rests.ensures, c.if-clause_rests.true, ← c.count_rests.ensures, c.if-count_rests.true) c.spare_zero.ensures
+    elim c.if-clause_rests.branch [
+      | then-clause_rests w ↦ rw (← c.clause_rests.ensures, w.if-clause_rests.true, ← w.count_rests.ensures, ← w.value-is, c.if-count_rests.true) c.spare_zero.ensures
+      | else-clause_rests w ↦ cc
+    ]
+
+pub returns-else-count_rests : goal.returns-else-count_rests
+returns-else-count_rests c =
+    elim c.if-clause_rests.branch [
+      | then-clause_rests w ↦ rw (← c.clause_rests.ensures, w.if-clause_rests.true, ← w.count_rests.ensures, ← w.value-is, c.if-count_rests.false) refl
+      | else-clause_rests w ↦ rw (← c.clause_rests.ensures, w.if-clause_rests.false) (c.if-count_rests.false)
+    ]

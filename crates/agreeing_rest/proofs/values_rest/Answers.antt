@@ -1,6 +1,7 @@
 -- `agreeing_rest::values_rest` meets its contract: the part lent is the rest. Assumes nothing.
-use Rattle.machine.proofs.Rest.{rest-is}
+use Rattle.std.proofs.Common.{rules}
+use Rattle.agreeing_rest.proofs.Zeros.{rest_zeros}
 use Rattle.agreeing_rest.proofs.values_rest.Goals as goal
 
 pub returns : goal.returns
-returns c = rest-is _ _ _ c.no_values.ensures
+returns c = rest_zeros c.args.from c.args.full c.args.words.now (search rules)

@@ -1,15 +1,16 @@
--- `marked::mark_holds` meets its contract: each way out has the tests that lead there. Assumes nothing.
+-- `marked::mark_holds` meets its contract: each mark has its case. Assumes nothing.
+use native.Mathlib.Omega.{arith}
 use Rattle.marked.proofs.MarksTested.{free-goes, large_fails, pinned-at-0, pinned-at_1}
 use Rattle.marked.proofs.mark_holds.Goals as goal
 
-pub returns-then-mark-eq0 : goal.returns-then-mark-eq0
-returns-then-mark-eq0 c = free-goes _ _ c.if-mark-eq0.true
+pub returns-in-0 : goal.returns-in-0
+returns-in-0 c = free-goes _ _ c.in-0.is
 
-pub returns-then-mark-gt2 : goal.returns-then-mark-gt2
-returns-then-mark-gt2 c = large_fails _ _ c.if-mark-gt2.true
+pub returns-in-1 : goal.returns-in-1
+returns-in-1 c = pinned-at-0 _ _ _ (omega arith) c.in-1.is c.value.ensures
 
-pub returns-then-mark-eq1 : goal.returns-then-mark-eq1
-returns-then-mark-eq1 c = pinned-at-0 _ _ _ c.if-mark-gt2.false c.if-mark-eq1.true c.value-v.ensures
+pub returns-in-2 : goal.returns-in-2
+returns-in-2 c = pinned-at_1 _ _ _ (λ q. omega arith) (omega arith) (λ q. omega arith) c.value-in-2.ensures
 
-pub returns : goal.returns
-returns c = pinned-at_1 _ _ _ c.if-mark-eq0.false c.if-mark-gt2.false c.if-mark-eq1.false c.value-v.ensures
+pub returns-in_default : goal.returns-in_default
+returns-in_default c = large_fails _ _ (omega arith)

@@ -2,8 +2,8 @@
 use Rattle.machine.proofs.Rest.{one-joined, all-joined}
 use Rattle.marked.proofs.no_marks.Goals as goal
 
-pub loop-i-preserved : goal.loop-i-preserved
-loop-i-preserved c = one-joined _ _ _ c.loop-i.invariant c.loop-i-test.true
+pub loop-mark-preserved : goal.loop-mark-preserved
+loop-mark-preserved c = one-joined _ _ _ c.loop-mark.invariant c.loop-mark-test.true
 
 pub returns : goal.returns
-returns c = all-joined _ _ _ c.loop-i.invariant c.loop-i-test.false
+returns c = all-joined _ _ _ c.loop-mark.invariant c.loop-mark-test.false

@@ -1,12 +1,8 @@
 use mathlib.Core.Path.{◌≡◌}
-use Prim.Native.Nat.{◌-◌, ◌≤◌}
 use lib.ListN.{length, take}
 use Rattle.written.specs.Lists.{total}
 use Rattle.machine.specs.Passes.{rewritten}
 use Rattle.occurrences.proofs.sums.Given as goal
 
 abbrev pub invariant-loop-l : goal.invariant-loop-l
-invariant-loop-l l = (l.l ≤ l.n) × (l.at ≡ total (λ x. x) (take l.l l.counts)) × (l.starts ≡ rewritten (λ k p. total (λ x. x) (take k l.counts)) l.l l.initial.starts) × (length l.starts ≡ length l.initial.starts)
-
-abbrev pub decreases-loop-l : goal.decreases-loop-l
-decreases-loop-l l = l.n - l.l
+invariant-loop-l l = (l.at ≡ total (λ x. x) (take l.l l.counts)) × (l.starts ≡ rewritten (λ k p. total (λ x. x) (take k l.counts)) l.l l.initial.starts) × (length l.starts ≡ length l.initial.starts)

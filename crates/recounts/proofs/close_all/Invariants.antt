@@ -1,11 +1,7 @@
 use mathlib.Core.Path.{◌≡◌}
-use Prim.Native.Nat.{◌-◌, ◌≤◌}
 use lib.ListN.{length}
 use Rattle.machine.specs.Passes.{rewritten, rest_place}
 use Rattle.recounts.proofs.close_all.Given as goal
 
 abbrev pub invariant-loop-c : goal.invariant-loop-c
-invariant-loop-c l = (l.c ≤ l.clauses) × (l.places ≡ rewritten (rest_place l.trues) l.c l.initial.places) × (length l.places ≡ length l.initial.places)
-
-abbrev pub decreases-loop-c : goal.decreases-loop-c
-decreases-loop-c l = l.clauses - l.c
+invariant-loop-c l = (l.places ≡ rewritten (rest_place l.trues) l.c l.initial.places) × (length l.places ≡ length l.initial.places)

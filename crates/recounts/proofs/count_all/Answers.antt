@@ -1,4 +1,3 @@
-use native.Mathlib.Omega.{arith}
 use Rattle.machine.specs.Passes.{counted}
 use Rattle.machine.proofs.Rewritten.{up_none, up_more}
 use Rattle.machine.proofs.Sizes.{sizes-refl, sizes_trans}
@@ -6,7 +5,7 @@ use Rattle.recounts.proofs.count_all.Goals as goal
 
 pub loop-c-init : goal.loop-c-init
 unfolding counted
-loop-c-init c = (omega arith, up_none _ _, sizes-refl _)
+loop-c-init c = (up_none _ _, sizes-refl _)
 
 pub loop-c-preserved : goal.loop-c-preserved
 unfolding counted
@@ -14,7 +13,6 @@ loop-c-preserved c =
     let o = c.count_one-number in
     let i = c.loop-c.invariant in
     let k = o.auto in (
-      omega arith,
-      up_more _ _ _ _ _ i.1 o.ensures,
-      sizes_trans (record { trues-size = k.trues; breaks-size = k.breaks; list-size = k.list; places-size = k.places }) i.2,
+      up_more _ _ _ _ _ i.0 o.ensures,
+      sizes_trans (record { trues-size = k.trues; breaks-size = k.breaks; list-size = k.list; places-size = k.places }) i.1,
     )

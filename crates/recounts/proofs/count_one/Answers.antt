@@ -18,16 +18,16 @@ pub raise-requires : goal.raise-requires
 raise-requires c =
     let f = view c.args.values.now c.args.starts.now c.args.literals.now in
     let p = c.part-clause.ensures in
-    rw (is_xor f c.args.c p c.xor_true-x.ensures) (c.requires.one (sym (is-count f c.args.c p c.true_count-k.ensures) ∙ c.if-k-eq1.true))
+    rw (c.from.ensures, is_xor f c.args.c p c.xor_true-x.ensures) (c.requires.one (sym (is-count f c.args.c p c.true_count-k.ensures) ∙ c.if-k-eq1.true))
 
 pub returns-then-k-eq1 : goal.returns-then-k-eq1
 unfolding marks
 returns-then-k-eq1 c =
     let p = c.part-clause.ensures in
-    count_1 _ _ _ (is-count _ _ p c.true_count-k.ensures) c.if-k-eq1.true (is_xor _ _ p c.xor_true-x.ensures) refl c.raise.ensures refl
+    count_1 _ _ _ (is-count _ _ p c.true_count-k.ensures) c.if-k-eq1.true (is_xor _ _ p c.xor_true-x.ensures) refl (rw c.from.ensures at c.raise.ensures) refl
 
-pub returns : goal.returns
+pub returns-else-k-eq1 : goal.returns-else-k-eq1
 unfolding marks
-returns c =
+returns-else-k-eq1 c =
     let p = c.part-clause.ensures in
     count-2 _ _ _ (is-count _ _ p c.true_count-k.ensures) c.if-k-eq0.false c.if-k-eq1.false (is_xor _ _ p c.xor_true-x.ensures) refl refl refl

@@ -1,9 +1,6 @@
-use Prim.Native.Nat.{◌-◌}
-use Rattle.tables.proofs.Clearing.{Clearing}
+use mathlib.Core.Path.{◌≡◌}
+use Rattle.machine.specs.Passes.{set_below}
 use Rattle.tables.proofs.clear.Given as goal
 
-abbrev pub invariant-loop-i : goal.invariant-loop-i
-invariant-loop-i l = Clearing l.initial.table l.last l.i l.table
-
-abbrev pub decreases-loop-i : goal.decreases-loop-i
-decreases-loop-i l = l.last - l.i
+abbrev pub invariant-loop-entry : goal.invariant-loop-entry
+invariant-loop-entry g l = l.entry-items ≡ set_below l.zero l.entry-index l.initial.entry-items

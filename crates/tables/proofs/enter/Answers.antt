@@ -1,7 +1,6 @@
-use mathlib.Core.Path.{refl}
 use Rattle.machine.specs.Uncovered.{enters}
 use Rattle.tables.proofs.enter.Goals as goal
 
 pub returns : goal.returns
 unfolding enters
-returns c = refl
+returns c = rw c.from.ensures

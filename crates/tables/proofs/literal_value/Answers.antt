@@ -1,5 +1,3 @@
-use mathlib.Core.Path.{ap}
-use Prim.Native.Nat.{ℕ, ◌+◌, ◌%◌}
 use native.Mathlib.Omega.{arith}
 use Rattle.words.specs.Words.{bit_of, bit_at}
 use Rattle.written.specs.Clauses.{term_of}
@@ -12,4 +10,4 @@ overflow_add-result c = omega (arith, c.value.ensures)
 
 pub returns : goal.returns
 unfolding value_in term_of
-returns c = ap (λ (k : ℕ). (k + c.args.l % 2) % 2) c.value.ensures
+returns c = rw (c.value.ensures, c.from.ensures, c.from-2.ensures)

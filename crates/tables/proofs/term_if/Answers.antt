@@ -8,6 +8,6 @@ pub returns-then-literal_value-eq1 : goal.returns-then-literal_value-eq1
 unfolding term_if term_of
 returns-then-literal_value-eq1 c = rw (← c.literal_value.ensures, c.if-literal_value-eq1.true)
 
-pub returns : goal.returns
+pub returns-else-literal_value-eq1 : goal.returns-else-literal_value-eq1
 unfolding term_if term_of
-returns c = rw (ne_eqb _ 1 (λ q. c.if-literal_value-eq1.false (c.literal_value.ensures ∙ q)))
+returns-else-literal_value-eq1 c = rw (ne_eqb _ 1 (λ q. c.if-literal_value-eq1.false (c.literal_value.ensures ∙ q)))
