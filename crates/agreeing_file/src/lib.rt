@@ -68,10 +68,10 @@ fn names_new(names: &[u64], slots: &mut [u16]) -> bool
     let mut i = 0;
     while i < names.len() {
         match names::find(names, slots, i, names[i]) {
-            names::Found::At(_) => {
+            Ok(_) => {
                 return false;
             }
-            names::Found::New(s) => {
+            Err(s) => {
                 slots[s] = (i + 1) as u16;
                 i += 1;
             }
