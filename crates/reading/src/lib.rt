@@ -11,7 +11,6 @@ ghost use Rattle.written.specs.Tables.{are_full};
 ghost use Rattle.written.specs.Outcomes.{leaves, ten, ten_of, read_leaves, read_into, reading_of};
 ghost use Rattle.reading_end.specs.Bare.{Bare};
 
-use reading_lines::Ended;
 use written::{Fault, Form, Read, Reason, Tested};
 
 // A text read into full tables of 0: they are 0 again where it is refused.
@@ -47,11 +46,11 @@ fn read_cleared(
         Tested::Passed => {}
     }
     match reading_draft::draft(form, text, names, starts, literals, breaks, places) {
-        Ended::Refused(fault) => {
+        Err(fault) => {
             reading_end::clear_draft(names, starts, literals, breaks, places);
             return Read::Refused(fault);
         }
-        Ended::Whole(p) => {
+        Ok(p) => {
             let n = reading_end::finish(
                 p,
                 values,

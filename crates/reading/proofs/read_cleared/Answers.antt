@@ -19,11 +19,11 @@ draft-requires c =
     let form = c.args.form in
     can_lay narrow text (read_by form narrow text) _ c.requires c.verdict.ensures c.in-Passed.is
 
-pub returns-in-Refused : goal.returns-in-Refused
-returns-in-Refused c =
+pub returns-in-Err : goal.returns-in-Err
+returns-in-Err c =
     let text = c.args.text.now in
     let form = c.args.form in
-    was-refused narrow text (read_by form narrow text) _ c.requires c.verdict.ensures c.in-Passed.is _ c.draft.ensures c.in-Refused.is
+    was-refused narrow text (read_by form narrow text) _ c.requires c.verdict.ensures c.in-Passed.is _ c.draft.ensures c.in-Err.is
     c.clear_draft.ensures
 
 pub finish-n-requires : goal.finish-n-requires
@@ -31,11 +31,11 @@ finish-n-requires c =
     let text = c.args.text.now in
     let form = c.args.form in
     finish-can narrow text (read_by form narrow text) (form-sound narrow (omega arith) form text) _ c.requires c.verdict.ensures c.in-Passed.is _
-    c.draft.ensures c.in-Whole.is 65536 (omega arith) (omega arith) (omega arith) (omega arith)
+    c.draft.ensures c.in-Ok.is 65536 (omega arith) (omega arith) (omega arith) (omega arith)
 
-pub returns-in-Whole : goal.returns-in-Whole
-returns-in-Whole c =
+pub returns-in-Ok : goal.returns-in-Ok
+returns-in-Ok c =
     let text = c.args.text.now in
     let form = c.args.form in
     was-whole narrow text (read_by form narrow text) (form-sound narrow (omega arith) form text) _ c.requires c.verdict.ensures c.in-Passed.is _
-    c.draft.ensures c.in-Whole.is 65536 (omega arith) (omega arith) (omega arith) (omega arith) c.finish-n.ensures
+    c.draft.ensures c.in-Ok.is 65536 (omega arith) (omega arith) (omega arith) (omega arith) c.finish-n.ensures
