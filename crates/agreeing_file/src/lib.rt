@@ -55,10 +55,10 @@ fn names_new(names: &[u64], slots: &mut [u16]) -> bool
 {
     for (i, x) in names.iter().enumerate() {
         match names::find(names, slots, i, *x) {
-            names::Found::At(_) => {
+            Ok(_) => {
                 return false;
             }
-            names::Found::New(s) => {
+            Err(s) => {
                 slots[s] = (i + 1) as u16;
             }
         }

@@ -8,13 +8,12 @@ use native.Mathlib.Omega.{arith}
 use lib.ListN.{length, get_or}
 use lib.Dec.{eqb, leb}
 use borrow.Author.Tests.{ne_eqb, eqb-false, leb-true}
-use Rattle.std.specs.Prelude.{Result}
+use Rattle.std.specs.Prelude.{Result, Some}
 use Rattle.words.specs.Words.{bit_at}
 use Rattle.scan.specs.Text.{bytes}
 use Rattle.written.specs.declared.Form.TheVariants.{Numbered}
 use Rattle.written.specs.declared.Fault.{Fault}
 use Rattle.written.specs.declared.Header.{Header}
-use Rattle.written.specs.declared.Headed.TheVariants.{Says}
 use Rattle.written.specs.declared.Numeral.TheVariants.{Number}
 use Rattle.written.specs.declared.Order.{Order}
 use Rattle.written.specs.declared.Sheet.{Sheet}
@@ -143,7 +142,7 @@ module _ (lim : Limits) (small : lim.terms < 10 ^ 8) (input : List ℕ) where
     values-back t = ap (λ (s : State). s.values) (holding-back lim e.last.state t w.valid)
 
     -- a value for each variable of the header
-    variables : (h : Header) → header_at (text_after w.sheet input) (head_at (text_after w.sheet input)).at ≡ Says h → length (values_at e) ≡ h.variables
+    variables : (h : Header) → header_at (text_after w.sheet input) (head_at (text_after w.sheet input)).at ≡ Some h → length (values_at e) ≡ h.variables
     unfolding names_to
     variables h q =
         w.valid.one_each ∙ ap length (every_variable lim (text_after w.sheet input) small file w.read h q) ∙ list_from-length 0 h.variables _

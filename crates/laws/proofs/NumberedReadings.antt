@@ -7,14 +7,13 @@ use native.Mathlib.Omega.{arith}
 use borrow.Author.Tests.{leb-true, leb-false, ltb-true, ltb-false}
 use lib.ListN.{length}
 use lib.Dec.{ltb, leb}
+use Rattle.std.proofs.Common.{Option, Some, None}
 use Rattle.scan.specs.Scan.{open_end}
 use Rattle.written.specs.declared.Reason.TheVariants.{TextTooLong, TextCut, HeaderForm, TooManyTerms}
 use Rattle.written.specs.declared.Fault.{Fault}
 use Rattle.written.specs.declared.Form.{Form}
 use Rattle.written.specs.declared.Form.TheVariants.{Own, Numbered}
 use Rattle.written.specs.declared.Header.{Header}
-use Rattle.written.specs.declared.Headed.{Headed}
-use Rattle.written.specs.declared.Headed.TheVariants.{Says, Malformed}
 use Rattle.written.specs.declared.Signed.{Signed}
 use Rattle.written.specs.Limits.{Limits}
 use Rattle.written.specs.Clauses.{File, as_read}
@@ -125,10 +124,10 @@ module _ (Q : Reading → Type 0) (lim : Limits) (t : List ℕ) where
   abbrev pub OfNumbers : Type 0
   OfNumbers = (h : Header) → Heading lim t h → Q (numbers_from (suc (length t)) lim t h (numbers_at t h) (begun h))
 
-  header-by : ((e : Fault) → Heads lim t e → Q (refused e)) → OfNumbers → (head_at t).at < length t → (k : Headed) → header_at t (head_at t).at ≡ k → Q (after_header lim t (head_at t).line k)
+  header-by : ((e : Fault) → Heads lim t e → Q (refused e)) → OfNumbers → (head_at t).at < length t → (k : Option Header) → header_at t (head_at t).at ≡ k → Q (after_header lim t (head_at t).line k)
   unfolding after_header
-  header-by heads next there Malformed e = heads (fault_at (head_at t).line HeaderForm) (malformed there e)
-  header-by heads next there (Says h) e =
+  header-by heads next there None e = heads (fault_at (head_at t).line HeaderForm) (malformed there e)
+  header-by heads next there (Some h) e =
       by_test Q (ltb lim.terms h.variables) (λ high. heads (fault_at (head_at t).line TooManyTerms) (term-room h there e (ltb-true lim.terms h.variables high))) (λ few.
       next h (record { there = there; says = e; few = ltb-false lim.terms h.variables few }))
 
@@ -180,14 +179,14 @@ module _ (lim : Limits) (t : List ℕ) (small : lim.terms < 10 ^ 8) where
   numbered-valid f e = as_read-valid lim f (numbered-proper f e)
 
   -- a term for each variable that the header says, whether it is used or not
-  pub every_variable : (f : File) → read_numbered lim t ≡ accepted f → (h : Header) → header_at t (head_at t).at ≡ Says h → f.names ≡ names_to h.variables
+  pub every_variable : (f : File) → read_numbered lim t ≡ accepted f → (h : Header) → header_at t (head_at t).at ≡ Some h → f.names ≡ names_to h.variables
   every_variable f e h q =
       let a = numbered-accepted f e in
       a.ends.names ∙ ap (λ (g : Header). names_to g.variables) (ap (headed h) (sym a.heading.says ∙ q))
     where
-      headed : Header → Headed → Header
-      headed d (Says g) = g
-      headed d Malformed = d
+      headed : Header → Option Header → Header
+      headed d (Some g) = g
+      headed d None = d
 
 -- a text of either form comes to a proper file, or to none
 pub form-sound : (lim : Limits) → lim.terms < 10 ^ 8 → (form : Form) (t : List ℕ) → Sound lim (read_as form lim t)

@@ -8,12 +8,12 @@ use native.Mathlib.Omega.{arith}
 use lib.ListN.{length}
 use lib.Dec.{ltb, leb, eqb}
 use borrow.Author.Tests.{leb-true, leb-false, ltb-true, ltb-false, le-leb, lt-leb, lt-ltb, le-ltb, eqb-true, eqb-false}
+use Rattle.std.proofs.Common.{Some}
 use Rattle.scan.specs.declared.Cursor.{Cursor}
 use Rattle.scan.specs.Scan.{open_end}
 use Rattle.written.specs.declared.Reason.TheVariants.{ByteNotAllowed, TooManyLiterals, TooManyClauses, NoClause, BlankLine, ClauseCount, PastHeader}
 use Rattle.written.specs.declared.Fault.{Fault}
 use Rattle.written.specs.declared.Header.{Header}
-use Rattle.written.specs.declared.Headed.TheVariants.{Says}
 use Rattle.written.specs.declared.Signed.{Signed}
 use Rattle.written.specs.declared.Numeral.{Numeral}
 use Rattle.written.specs.declared.Numeral.TheVariants.{Number, Bad, End}
@@ -155,7 +155,7 @@ module _ (lim : Limits) (t : List ℕ) (h : Header) where
       })
 
   -- the cursor is in the text
-  pub comes-stand : open_end t ≡ false → header_at t (head_at t).at ≡ Says h → (c : Cursor) (s : Sum) → Comes lim t h c s → Stands t c
+  pub comes-stand : open_end t ≡ false → header_at t (head_at t).at ≡ Some h → (c : Cursor) (s : Sum) → Comes lim t h c s → Stands t c
   comes-stand closed says c s begins = header-stands t (head_at t) h says (head-stands t closed)
   comes-stand closed says _ _ (goes_on c s a k q) = number-stands t c (comes-stand closed says c s k)
 

@@ -8,14 +8,13 @@ use borrow.Author.Tests.{le-leb, lt-leb, eqb-true, not-false}
 use lib.ListN.{length, get_or, take, drop, get_or-eq_default}
 use lib.Seq.{get_or-take, get_or-drop}
 use lib.Dec.{eqb, ltb}
+use Rattle.std.proofs.Common.{Option, Some, None}
 use Rattle.scan.specs.declared.Cursor.{Cursor}
 use Rattle.scan.specs.Scan.{lead, past, rest_at, open_end, start}
 use Rattle.scan.specs.Text.{bytes}
 use Rattle.scan.proofs.Laws.{past_more, past_ge, past-le, get_d_any}
 use Rattle.scan.proofs.Over.{past-halts}
 use Rattle.written.specs.declared.Header.{Header}
-use Rattle.written.specs.declared.Headed.{Headed}
-use Rattle.written.specs.declared.Headed.TheVariants.{Says, Malformed}
 use Rattle.written.specs.declared.Signed.{Signed}
 use Rattle.written.specs.declared.Numeral.{Numeral}
 use Rattle.written.specs.declared.Numeral.TheVariants.{Number, Bad, End}
@@ -173,9 +172,9 @@ pub record Ends (t : List ℕ) (at : ℕ) (h : Header) : Type 0 where
 there : (t : List ℕ) (i b : ℕ) → get_or t i 0 ≡ b → 0 < b → i < length t
 there t i b e some = by-lt i (length t) (λ l. l) (λ l. absurd (omega (arith, e, get_or-eq_default t 0 l)))
 
-abbrev HeadEnds : List ℕ → ℕ → Headed → Type 0
-HeadEnds t at (Says h) = Ends t at h
-HeadEnds t at Malformed = Unit {0}
+abbrev HeadEnds : List ℕ → ℕ → Option Header → Type 0
+HeadEnds t at (Some h) = Ends t at h
+HeadEnds t at None = Unit {0}
 
 sizes-end : (t : List ℕ) (at v : ℕ) → at < v → HeadEnds t at (sizes_at t v)
 unfolding sizes_at
@@ -202,11 +201,11 @@ header-ends t at =
     (λ _. sizes-end t at v (omega (arith, past_ge is_blank t (suc at), past_ge is_blank t (k + 3))))
     (λ _. tt)
 
-pub header-end : (t : List ℕ) (at : ℕ) (h : Header) → header_at t at ≡ Says h → Ends t at h
+pub header-end : (t : List ℕ) (at : ℕ) (h : Header) → header_at t at ≡ Some h → Ends t at h
 header-end t at h e = subst (HeadEnds t at) e (header-ends t at)
 
 -- the cursor at a header's end, on the header's line
-pub header-stands : (t : List ℕ) (c : Cursor) (h : Header) → header_at t c.at ≡ Says h → Stands t c → Stands t (record { at = h.end; line = c.line })
+pub header-stands : (t : List ℕ) (c : Cursor) (h : Header) → header_at t c.at ≡ Some h → Stands t c → Stands t (record { at = h.end; line = c.line })
 header-stands t c h e stands =
     let ended = header-end t c.at h e in
     later-stands t c stands h.end (omega (arith, ended.after)) (omega (arith, ended.within))

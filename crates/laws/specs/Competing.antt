@@ -1,12 +1,11 @@
 -- The program for numbered files, in the document's words: what it prints, of the bytes of its input, found and given up. Assumes nothing.
-use Rattle.std.specs.Prelude.{ℕ, suc, ◌*◌, ◌≤◌, ◌<◌, ◌≡◌, true, length, get_or, take, drop, eqb}
+use Rattle.std.specs.Prelude.{ℕ, suc, ◌*◌, ◌≤◌, ◌<◌, ◌≡◌, true, length, get_or, take, drop, eqb, Some}
 use Prim.Native.String.{String}
 use mathlib.Core.List.{List, [], ◌++◌, flatten}
 use Rattle.words.specs.Words.{bit_at}
 use Rattle.scan.specs.Text.{bytes}
 use Rattle.written.specs.declared.Form.TheVariants.{Numbered}
 use Rattle.written.specs.declared.Header.{Header}
-use Rattle.written.specs.declared.Headed.TheVariants.{Says}
 use Rattle.written.specs.declared.Numeral.TheVariants.{Number}
 use Rattle.written.specs.declared.Sheet.{Sheet}
 use Rattle.written.specs.Lists.{list_of, has}
@@ -47,7 +46,7 @@ pub record FoundValues (lim : Limits) (input : List ℕ) (e : Outcome) : Type 0 
   pub walks : WalksNumbered lim input e
   pub prints : competing lim input ≡ tour_told e.walks e.last.flips ++ (satisfiable ++ value_lines (values_at e))
   -- as many values as the header says variables
-  pub variables : (h : Header) → header_at (text_after walks.sheet input) (head_at (text_after walks.sheet input)).at ≡ Says h → length (values_at e) ≡ h.variables
+  pub variables : (h : Header) → header_at (text_after walks.sheet input) (head_at (text_after walks.sheet input)).at ≡ Some h → length (values_at e) ≡ h.variables
   -- the numbers of all lines, one after another, are those of 1 and on, each once
   pub numbers : flatten (list_of (lines_for (length (values_at e))) (values_on (values_at e))) ≡ values_from 1 (values_at e)
   -- each, read as a number of a numbered file is read, is its variable's, negated exactly where the value is 0

@@ -1,11 +1,10 @@
 -- A reading of numbered text in the document's words: its header, where its numbers lead, and what it cannot pass. Assumes nothing.
-use Rattle.std.specs.Prelude.{ℕ, ◌-◌, ◌≤◌, ◌<◌, ◌⊎◌, ◌≡◌, true, false, not, List, [], length}
+use Rattle.std.specs.Prelude.{ℕ, ◌-◌, ◌≤◌, ◌<◌, ◌⊎◌, ◌≡◌, true, false, not, List, [], length, Some, None}
 use Rattle.scan.specs.declared.Cursor.{Cursor}
 use Rattle.scan.specs.Scan.{start}
 use Rattle.written.specs.declared.Reason.TheVariants.{ByteNotAllowed, TooManyTerms, TooManyLiterals, TooManyClauses, NoClause, BlankLine, HeaderForm, ClauseCount, PastHeader}
 use Rattle.written.specs.declared.Fault.{Fault}
 use Rattle.written.specs.declared.Header.{Header}
-use Rattle.written.specs.declared.Headed.TheVariants.{Says, Malformed}
 use Rattle.written.specs.declared.Signed.{Signed}
 use Rattle.written.specs.declared.Numeral.{Numeral}
 use Rattle.written.specs.declared.Numeral.TheVariants.{Number, Bad, End}
@@ -27,7 +26,7 @@ head_at t = past_comments (length t) t start
 -- what it says, of no more variables than there may be terms
 pub record Heading (lim : Limits) (t : List ℕ) (h : Header) : Type 0 where
   pub there : (head_at t).at < length t
-  pub says : header_at t (head_at t).at ≡ Says h
+  pub says : header_at t (head_at t).at ≡ Some h
   pub few : h.variables ≤ lim.terms
 
 -- one that a reading cannot pass: reasons 16 and 6, "given exactly when"
@@ -35,9 +34,9 @@ pub data Heads (lim : Limits) (t : List ℕ) : Fault → Type 0 where
   -- "or missing (line 0 at the text's end)"
   missing : length t ≤ (head_at t).at → Heads lim t (fault HeaderForm)
   -- "header malformed", with its line
-  malformed : (head_at t).at < length t → header_at t (head_at t).at ≡ Malformed → Heads lim t (fault_at (head_at t).line HeaderForm)
+  malformed : (head_at t).at < length t → header_at t (head_at t).at ≡ None → Heads lim t (fault_at (head_at t).line HeaderForm)
   -- "a header of over 2,048 variables"
-  term-room : (h : Header) → (head_at t).at < length t → header_at t (head_at t).at ≡ Says h → lim.terms < h.variables → Heads lim t (fault_at (head_at t).line TooManyTerms)
+  term-room : (h : Header) → (head_at t).at < length t → header_at t (head_at t).at ≡ Some h → lim.terms < h.variables → Heads lim t (fault_at (head_at t).line TooManyTerms)
 
 -- ---- the numbers: where a reading comes by, and what it cannot pass
 

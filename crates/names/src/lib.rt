@@ -8,13 +8,6 @@ ghost use Rattle.written.specs.Limits.{narrow};
 ghost use Rattle.machine.specs.Slots.{home_of, Indexed};
 ghost use Rattle.names.specs.Finding.{homes, Finds};
 
-// How a name is found: at a term, or missing, with the slot where it would go.
-#[derive(Clone, Copy)]
-pub enum Found {
-    At(usize),
-    New(usize),
-}
-
 // The slot from which a name is looked for.
 fn home(name: u64) -> usize
     ensures { result ≡ home_of homes name }
@@ -22,23 +15,22 @@ fn home(name: u64) -> usize
     (name % 1000003 * 617 % 6067) as usize
 }
 
-// A name among the first `terms` of the names.
-pub fn find(names: &[u64], slots: &[u16], terms: usize, name: u64) -> Found
+// A name among the first `terms` of the names: its term, or the slot where it would go.
+pub fn find(names: &[u64], slots: &[u16], terms: usize, name: u64) -> Result<usize, usize>
     requires { (terms ≤ length names.now) × Indexed homes narrow.terms (take terms names.now) slots.now }
     ensures { Finds homes (take terms names.now) slots.now name result }
 {
-    let mut s = home(name);
-    loop {
-        let k = slots[s] as usize;
+    for s in home(name)..slots.len() {
+        let k = usize::from(slots[s]);
         if k == 0 {
-            return Found::New(s);
+            return Err(s);
         }
         let t = k - 1;
         if names[t] == name {
-            return Found::At(t);
+            return Ok(t);
         }
-        s += 1;
     }
+    unreachable!() // an empty slot comes before their end
 }
 
 // A new name, put after those known and into the slot where the search for it ended.

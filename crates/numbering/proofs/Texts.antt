@@ -6,12 +6,11 @@ use native.Mathlib.Omega.{arith}
 use borrow.Author.Tests.{le-leb, lt-leb, lt-ltb, le-ltb}
 use lib.ListN.{length, take, drop, length-append, length-drop}
 use lib.Seq.{length-take-le}
+use Rattle.std.proofs.Common.{Option, Some, None, Result, Err}
 use Rattle.scan.specs.declared.Cursor.{Cursor}
 use Rattle.written.specs.declared.Reason.TheVariants.{TooManyTerms, HeaderForm}
 use Rattle.written.specs.declared.Fault.{Fault}
 use Rattle.written.specs.declared.Header.{Header}
-use Rattle.written.specs.declared.Headed.{Headed}
-use Rattle.written.specs.declared.Headed.TheVariants.{Says, Malformed}
 use Rattle.written.specs.Limits.{Limits}
 use Rattle.written.specs.Tables.{over}
 use Rattle.written.specs.Reasons.{fault, fault_at}
@@ -26,13 +25,16 @@ use Rattle.laws.proofs.NumberedNames.{names-length}
 use Rattle.laws.proofs.NumeralSteps.{head-stands, header-stands, header-end}
 use Rattle.laws.proofs.NumberedReadings.{begun-sums}
 use Rattle.reading_literal.specs.Taking.{by_number}
-use Rattle.reading_lines.specs.declared.Ended.{Ended}
-use Rattle.reading_lines.specs.declared.Ended.TheVariants as E
+use Rattle.reading_lines.specs.declared.Place.{Place}
 use Rattle.reading_lines.specs.Drafting.{DraftedWith}
 use Rattle.reading_lines.specs.Turns.{place_at}
 use Rattle.reading_lines.proofs.Held.{Begins, begins-drafted}
 use Rattle.numbering.specs.Passes.{outset}
 use Rattle.numbering.specs.Counting.{Count, desk_with, Summed, EndsBy, CanBegin, read_numbers, Counted, CanDraw, Drawn}
+
+no-other : (d : Option Header) → ((h : Header) → d ≡ Some h → ⊥) → d ≡ None
+no-other None other = refl
+no-other (Some h) other = absurd (other h refl)
 
 module _ (lim : Limits) (t names : List ℕ) (k : Count) (can : CanDraw lim t names k) {c : Cursor} (q : c ≡ head_at t) where
   stands : Stands t c
@@ -47,24 +49,24 @@ module _ (lim : Limits) (t names : List ℕ) (k : Count) (can : CanDraw lim t na
   by-head : {r : Reading} → from_header lim t c ≡ r → numbers_in lim t ≡ r
   by-head e = ap (from_header lim t) (sym q) ∙ e
 
-  stopped : {z : Ended} (e : Fault) → z ≡ E.Refused e → numbers_in lim t ≡ refused e → Drawn lim t names k names k z
+  stopped : {f : Fault} (e : Fault) → f ≡ e → numbers_in lim t ≡ refused e → Drawn lim t names k names k (Err f)
   stopped e told is = record { told = λ os. rw told (is, record { names-beyond = refl; starts-beyond = refl; literals-beyond = refl; stamps-beyond = refl; slots-beyond = refl }) }
 
-  pub no_header : length t ≤ c.at → {z : Ended} → z ≡ E.Refused (fault HeaderForm) → Drawn lim t names k names k z
+  pub no_header : length t ≤ c.at → {f : Fault} → f ≡ fault HeaderForm → Drawn lim t names k names k (Err f)
   unfolding from_header
   no_header l told = stopped (fault HeaderForm) told (by-head (rw (le-leb (length t) c.at l) refl))
 
-  module _ (there : c.at < length t) {d : Headed} (headed : d ≡ header_at t c.at) where
-    after : {x : Headed} → d ≡ x → from_header lim t c ≡ after_header lim t c.line x
+  module _ (there : c.at < length t) {d : Option Header} (headed : d ≡ header_at t c.at) where
+    after : {x : Option Header} → d ≡ x → from_header lim t c ≡ after_header lim t c.line x
     unfolding from_header
     after e = rw (lt-leb (length t) c.at there) (ap (after_header lim t c.line) (sym headed ∙ e))
 
-    pub malformed : d ≡ Malformed → {z : Ended} → z ≡ E.Refused (fault_at c.line HeaderForm) → Drawn lim t names k names k z
+    pub malformed : ((h : Header) → d ≡ Some h → ⊥) → {f : Fault} → f ≡ fault_at c.line HeaderForm → Drawn lim t names k names k (Err f)
     unfolding after_header
-    malformed e told = stopped (fault_at c.line HeaderForm) told (by-head (after e))
+    malformed other told = stopped (fault_at c.line HeaderForm) told (by-head (after (no-other d other)))
 
-    module _ {h : Header} (says : d ≡ Says h) where
-      pub too_many : lim.terms < h.variables → {z : Ended} → z ≡ E.Refused (fault_at c.line TooManyTerms) → Drawn lim t names k names k z
+    module _ {h : Header} (says : d ≡ Some h) where
+      pub too_many : lim.terms < h.variables → {f : Fault} → f ≡ fault_at c.line TooManyTerms → Drawn lim t names k names k (Err f)
       unfolding after_header
       too_many l told = stopped (fault_at c.line TooManyTerms) told (by-head (after says ∙ rw (lt-ltb lim.terms h.variables l) refl))
 
@@ -124,6 +126,6 @@ module _ (lim : Limits) (t names : List ℕ) (k : Count) (can : CanDraw lim t na
               gap = rw (header-end t c.at h (sym headed ∙ says)).line-end refl;
             }
 
-        pub numbers-drawn : {k' : Count} (z : Ended) → Counted lim t h c.line k k' z → Drawn lim t names k names' k' z
+        pub numbers-drawn : {k' : Count} (z : Result Place Fault) → Counted lim t h c.line k k' z → Drawn lim t names k names' k' z
         numbers-drawn {k'} z counted =
             record { told = λ os. subst (λ (u : Reading). EndsBy lim u (desk_with names os k) (desk_with names' os k') z) (sym reads) (counted.told (desk_with names os k) names' os (summed os)) }

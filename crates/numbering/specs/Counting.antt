@@ -1,6 +1,7 @@
 -- The tables that numbers are put into, the reading on its way that they hold, and how the code's turns are the written ones. Assumes nothing.
-use Rattle.std.specs.Prelude.{ℕ, suc, ◌≤◌, ◌<◌, ◌≡◌, true, false, List, length, get_or}
+use Rattle.std.specs.Prelude.{ℕ, suc, ◌≤◌, ◌<◌, ◌≡◌, true, false, List, length, get_or, Result, Ok, Err}
 use Rattle.scan.specs.Scan.{open_end, cursor_at}
+use Rattle.written.specs.declared.Fault.{Fault}
 use Rattle.written.specs.declared.Header.{Header}
 use Rattle.written.specs.declared.Numeral.{Numeral}
 use Rattle.written.specs.Limits.{Limits}
@@ -11,8 +12,7 @@ use Rattle.written.specs.Numbered.{Sum, Pass, on, to, begun, at_numeral, numbers
 use Rattle.laws.proofs.Faults.{Stands}
 use Rattle.laws.proofs.NumberedReadings.{Sums}
 use Rattle.reading_literal.specs.Taking.{by_number}
-use Rattle.reading_lines.specs.declared.Ended.{Ended}
-use Rattle.reading_lines.specs.declared.Ended.TheVariants as E
+use Rattle.reading_lines.specs.declared.Place.{Place}
 use Rattle.reading_lines.specs.Drafting.{Desk, desk, BeyondWith, DraftedWith, LeadsWith, whole}
 use Rattle.numbering.specs.declared.Going.{Going}
 use Rattle.numbering.specs.declared.Pass as D
@@ -57,19 +57,19 @@ pub record Onward (u : Pass) (lim : Limits) (h : Header) (w₀ w : Desk) (g : Go
   pub summed : Summed lim h w₀ w g sum
 
 -- where the code goes is the written pass u
-abbrev pub Passed : Limits → Header → Desk → Desk → Pass → D.Pass → Type 0
-Passed lim h w₀ w u (P.On g) = Onward u lim h w₀ w g
-Passed lim h w₀ w u (P.Whole p) = LeadsWith u (λ d. to (whole d)) by_number lim w₀ w p
-Passed lim h w₀ w u (P.Refused f) = (u ≡ to (refused f)) × BeyondWith by_number lim w₀ w
+abbrev pub Passed : Limits → Header → Desk → Desk → Pass → Result D.Pass Fault → Type 0
+Passed lim h w₀ w u (Ok (P.On g)) = Onward u lim h w₀ w g
+Passed lim h w₀ w u (Ok (P.Whole p)) = LeadsWith u (λ d. to (whole d)) by_number lim w₀ w p
+Passed lim h w₀ w u (Err f) = (u ≡ to (refused f)) × BeyondWith by_number lim w₀ w
 
 -- whatever the tables held, what was met has done to it what is written
-pub record CountsBy (lim : Limits) (h : Header) (k : Numeral) (t : Count) (g : Going) (t' : Count) (r : D.Pass) : Type 0 where
+pub record CountsBy (lim : Limits) (h : Header) (k : Numeral) (t : Count) (g : Going) (t' : Count) (r : Result D.Pass Fault) : Type 0 where
   pub told : (w₀ : Desk) (ns os : List ℕ) (s : Sum) → Summed lim h w₀ (desk_with ns os t) g s → Passed lim h w₀ (desk_with ns os t') (at_numeral lim h s k) r
 
 -- the code ends with the reading u
-abbrev pub EndsBy : Limits → Reading → Desk → Desk → Ended → Type 0
-EndsBy lim u w₀ w (E.Whole p) = LeadsWith u whole by_number lim w₀ w p
-EndsBy lim u w₀ w (E.Refused f) = (u ≡ refused f) × BeyondWith by_number lim w₀ w
+abbrev pub EndsBy : Limits → Reading → Desk → Desk → Result Place Fault → Type 0
+EndsBy lim u w₀ w (Ok p) = LeadsWith u whole by_number lim w₀ w p
+EndsBy lim u w₀ w (Err f) = (u ≡ refused f) × BeyondWith by_number lim w₀ w
 
 -- what the numbers of a text ask, after the header on a line: tables that hold the names of its variables
 pub record CanBegin (lim : Limits) (t : List ℕ) (h : Header) (line : ℕ) (k : Count) : Type 0 where
@@ -85,7 +85,7 @@ pub record CanBegin (lim : Limits) (t : List ℕ) (h : Header) (line : ℕ) (k :
 abbrev pub read_numbers : Limits → List ℕ → Header → ℕ → Reading
 read_numbers lim t h line = numbers_from (suc (length t)) lim t h (cursor_at h.end line) (begun h)
 
-pub record Counted (lim : Limits) (t : List ℕ) (h : Header) (line : ℕ) (k k' : Count) (r : Ended) : Type 0 where
+pub record Counted (lim : Limits) (t : List ℕ) (h : Header) (line : ℕ) (k k' : Count) (r : Result Place Fault) : Type 0 where
   pub told : (w₀ : Desk) (ns os : List ℕ) → Summed lim h w₀ (desk_with ns os k) (outset h) (begun h)
       → EndsBy lim (read_numbers lim t h line) w₀ (desk_with ns os k') r
 
@@ -100,5 +100,5 @@ pub record CanDraw (lim : Limits) (t names : List ℕ) (k : Count) : Type 0 wher
   pub first : get_or k.starts 0 0 ≡ 0
 
 -- what the code ends with is the written reading of the text, whatever stands in the slots
-pub record Drawn (lim : Limits) (t names : List ℕ) (k : Count) (names' : List ℕ) (k' : Count) (r : Ended) : Type 0 where
+pub record Drawn (lim : Limits) (t names : List ℕ) (k : Count) (names' : List ℕ) (k' : Count) (r : Result Place Fault) : Type 0 where
   pub told : (os : List ℕ) → EndsBy lim (numbers_in lim t) (desk_with names os k) (desk_with names' os k') r

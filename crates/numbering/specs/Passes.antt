@@ -1,6 +1,7 @@
 -- What a number leads to, by how far a draft has come: the code's turns, operation by operation. Assumes nothing.
-use Rattle.std.specs.Prelude.{ℕ, suc, Bool, true, false, not, cond, List, eqb, leb, ltb}
+use Rattle.std.specs.Prelude.{ℕ, suc, Bool, true, false, not, cond, List, eqb, leb, ltb, Result, Ok, Err}
 use Rattle.written.specs.declared.Reason.TheVariants.{ClauseCount}
+use Rattle.written.specs.declared.Fault.{Fault}
 use Rattle.written.specs.declared.Header.{Header}
 use Rattle.written.specs.Limits.{Limits}
 use Rattle.written.specs.Reasons.{fault, fault_at}
@@ -20,18 +21,21 @@ abbrev pub outset : Header → Going
 outset h = going (place_at h.variables 0 0 0) false 0
 
 -- after a turn of the open clause, when n have ended
-abbrev pub pass_of : Next → ℕ → Pass
-pass_of (N.Goes p) n = P.On (going p false n)
-pass_of (N.Drops p) n = P.On (going p true n)
-pass_of (N.Whole p) n = P.Whole p
-pass_of (N.Refused f) n = P.Refused f
+abbrev pub turned_on : Next → ℕ → Pass
+turned_on (N.Goes p) n = P.On (going p false n)
+turned_on (N.Drops p) n = P.On (going p true n)
+turned_on (N.Whole p) n = P.Whole p
+
+abbrev pub pass_of : Result Next Fault → ℕ → Result Pass Fault
+pass_of (Ok r) n = Ok (turned_on r n)
+pass_of (Err f) n = Err f
 
 -- what a clause's end leads to, and the starts that it leaves
 pub record ZeroEnd : Type 0 where
-  pub pass : Pass
+  pub pass : Result Pass Fault
   pub starts : List ℕ
 
-abbrev pub zero_end : Pass → List ℕ → ZeroEnd
+abbrev pub zero_end : Result Pass Fault → List ℕ → ZeroEnd
 zero_end r ss = record { pass = r; starts = ss }
 
 abbrev pub kept_by : LineEnd → ℕ → ZeroEnd
@@ -39,14 +43,14 @@ kept_by e n = zero_end (pass_of e.next n) e.starts
 
 unfoldable pub after_zero : Limits → Header → Going → ℕ → List ℕ → ZeroEnd
 after_zero lim h g n ss =
-    cond (leb h.clauses g.ended) (zero_end (P.Refused (fault_at n ClauseCount)) ss)
-    (cond g.dropped (zero_end (P.On (going g.place false (suc g.ended))) ss)
+    cond (leb h.clauses g.ended) (zero_end (Err (fault_at n ClauseCount)) ss)
+    (cond g.dropped (zero_end (Ok (P.On (going g.place false (suc g.ended)))) ss)
     (kept_by (after_line lim g.place n ss) (suc g.ended)))
 
 -- the text's end
-unfoldable pub after_numbers : Header → Going → Pass
+unfoldable pub after_numbers : Header → Going → Result Pass Fault
 after_numbers h g =
-    cond g.dropped (P.Refused (fault ClauseCount))
-    (cond (not (eqb g.place.held g.place.from)) (P.Refused (fault ClauseCount))
-    (cond (ltb g.ended h.clauses) (P.Refused (fault ClauseCount))
+    cond g.dropped (Err (fault ClauseCount))
+    (cond (not (eqb g.place.held g.place.from)) (Err (fault ClauseCount))
+    (cond (ltb g.ended h.clauses) (Err (fault ClauseCount))
     (pass_of (after_text g.place) 0)))

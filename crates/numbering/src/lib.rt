@@ -7,16 +7,14 @@ ghost use Rattle.std.specs.Prelude.{◌≡◌, ◌^◌, ◌≤◌, ◌<◌, leng
 ghost use Rattle.written.specs.Limits.{narrow};
 ghost use Rattle.written.specs.Tables.{over};
 ghost use Rattle.written.specs.Numbered.{name_for, names_to};
-ghost use Rattle.written.specs.Reasons.{fault_at};
 ghost use Rattle.written.specs.declared.Numeral.TheVariants.{Number};
 ghost use Rattle.laws.proofs.NumeralSteps.{line_in};
-ghost use Rattle.reading_lines.specs.declared.Ended.TheVariants.{Refused};
-ghost use Rattle.numbering.specs.Passes.{pass_of, zero_end, after_zero, after_numbers};
+ghost use Rattle.numbering.specs.Passes.{turned_on, zero_end, after_zero, after_numbers};
 ghost use Rattle.numbering.specs.Counting.{count_at, CanCount, CountsBy, CanBegin, Counted, CanDraw, Drawn};
 
-use reading_lines::{Ended, Next, Place};
+use reading_lines::{Next, Place, fault_at};
 use scan::Cursor;
-use written::{Fault, Headed, Header, Numeral, Reason, Signed};
+use written::{Fault, Header, Numeral, Reason, Signed};
 
 // How far a draft has come, whether its open clause is dropped, and how many clauses have ended, those dropped too.
 #[derive(Clone, Copy)]
@@ -26,12 +24,11 @@ pub struct Going {
     pub dropped: bool,
 }
 
-// Where a number leads: on, to the text's end with a clause kept, or to a fault.
+// Where a number leads that is no fault: on, or to the text's end with a clause kept.
 #[derive(Clone, Copy)]
 pub enum Pass {
     On(Going),
     Whole(Place),
-    Refused(Fault),
 }
 
 // ---- the names
@@ -43,6 +40,7 @@ fn name_of(v: u64) -> u64
 {
     let mut rest = v;
     let mut name: u64 = 0;
+    // counted by no index: the digits end where one is left
     while 10 <= rest {
         name = 48 + rest % 10 + 256 * name;
         rest /= 10;
@@ -55,10 +53,8 @@ fn put_names(names: &mut [u64], n: usize)
     requires { (n ≤ length names.old) × (n < 10 ^ 8) }
     ensures { names.new ≡ over (names_to n) names.old }
 {
-    let mut k: usize = 0;
-    while k < n {
+    for k in 0..n {
         names[k] = name_of((k + 1) as u64);
-        k += 1;
     }
 }
 
@@ -66,43 +62,38 @@ fn put_names(names: &mut [u64], n: usize)
 
 // After a turn of the open clause, when so many have ended.
 fn turned(next: Next, ended: u64) -> Pass
-    ensures { result ≡ pass_of next ended }
+    ensures { result ≡ turned_on next ended }
 {
-    match next {
-        Next::Goes(place) => Pass::On(Going {
-            place,
-            dropped: false,
-            ended,
-        }),
-        Next::Drops(place) => Pass::On(Going {
-            place,
-            dropped: true,
-            ended,
-        }),
-        Next::Whole(place) => Pass::Whole(place),
-        Next::Refused(fault) => Pass::Refused(fault),
-    }
+    let (place, dropped) = match next {
+        Next::Goes(place) => (place, false),
+        Next::Drops(place) => (place, true),
+        Next::Whole(place) => return Pass::Whole(place),
+    };
+    Pass::On(Going {
+        place,
+        dropped,
+        ended,
+    })
 }
 
 // A clause's end: past the header's count, of a dropped clause, of 0 alone, or one that is kept if there is room.
-fn at_zero(starts: &mut [u16], h: Header, g: Going, line: usize) -> Pass
+fn at_zero(starts: &mut [u16], h: Header, g: Going, line: usize) -> Result<Pass, Fault>
     requires { (line < 2 ^ 32) × (g.place.held < 2 ^ 16) × (narrow.clauses < length starts.old) }
     ensures { zero_end result starts.new ≡ after_zero narrow h g line starts.old }
 {
-    let place = g.place;
-    let ended = g.ended;
-    if h.clauses <= ended {
-        return turned(reading_lines::refused(Reason::ClauseCount, line), 0);
+    if h.clauses <= g.ended {
+        return Err(fault_at(Reason::ClauseCount, line));
     }
-    let next = ended + 1;
+    let ended = g.ended + 1;
     if g.dropped {
-        return Pass::On(Going {
-            place,
+        return Ok(Pass::On(Going {
             dropped: false,
-            ended: next,
-        });
+            ended,
+            ..g
+        }));
     }
-    turned(reading_lines::at_line_end(starts, place, line), next)
+    let next = reading_lines::at_line_end(starts, g.place, line)?;
+    Ok(turned(next, ended))
 }
 
 // A number: above the header's, a clause's end, of a dropped clause, or a variable's literal.
@@ -113,42 +104,44 @@ fn at_number(
     h: Header,
     g: Going,
     x: Signed,
-) -> Pass
+) -> Result<Pass, Fault>
     requires { CanCount narrow h (count_at starts.old literals.old stamps.old) g × (x.line < 2 ^ 32) }
     ensures { CountsBy narrow h (Number x) (count_at starts.old literals.old stamps.old) g (count_at starts.new literals.new stamps.new) result }
 {
     let line = x.line;
     let number = x.number;
     if h.variables < number {
-        return turned(reading_lines::refused(Reason::PastHeader, line), 0);
+        return Err(fault_at(Reason::PastHeader, line));
     }
     if number == 0 {
         return at_zero(starts, h, g, line);
     }
     if g.dropped {
-        return Pass::On(g);
+        return Ok(Pass::On(g));
     }
     let term = (number - 1) as usize;
     let p = g.place;
     let taken = reading_literal::place(literals, stamps, p.from, p.held, term, x.negated);
-    turned(reading_lines::after_literal(taken, p, line), g.ended)
+    let next = reading_lines::after_literal(taken, p, line)?;
+    Ok(turned(next, g.ended))
 }
 
 // The text's end: a clause is open, clauses are too few, none is kept, or the file is whole.
-fn at_numbers_end(h: Header, g: Going) -> Pass
+fn at_numbers_end(h: Header, g: Going) -> Result<Pass, Fault>
     ensures { result ≡ after_numbers h g }
 {
     let p = g.place;
     if g.dropped {
-        return turned(reading_lines::refused(Reason::ClauseCount, 0), 0);
+        return Err(fault_at(Reason::ClauseCount, 0));
     }
     if p.held != p.from {
-        return turned(reading_lines::refused(Reason::ClauseCount, 0), 0);
+        return Err(fault_at(Reason::ClauseCount, 0));
     }
     if g.ended < h.clauses {
-        return turned(reading_lines::refused(Reason::ClauseCount, 0), 0);
+        return Err(fault_at(Reason::ClauseCount, 0));
     }
-    turned(reading_lines::at_text_end(p), 0)
+    let next = reading_lines::at_text_end(p)?;
+    Ok(turned(next, 0))
 }
 
 // What is met, and where it leads.
@@ -159,13 +152,13 @@ fn at_numeral(
     h: Header,
     g: Going,
     k: Numeral,
-) -> Pass
+) -> Result<Pass, Fault>
     requires { CanCount narrow h (count_at starts.old literals.old stamps.old) g × (line_in k < 2 ^ 32) }
     ensures { CountsBy narrow h k (count_at starts.old literals.old stamps.old) g (count_at starts.new literals.new stamps.new) result }
 {
     match k {
         Numeral::Number(x) => at_number(starts, literals, stamps, h, g, x),
-        Numeral::Bad(n) => turned(reading_lines::refused(Reason::ByteNotAllowed, n), 0),
+        Numeral::Bad(n) => Err(fault_at(Reason::ByteNotAllowed, n)),
         Numeral::End => at_numbers_end(h, g),
     }
 }
@@ -178,7 +171,7 @@ fn numbers(
     stamps: &mut [u16],
     h: Header,
     line: usize,
-) -> Ended
+) -> Result<Place, Fault>
     requires { CanBegin narrow text.now h line (count_at starts.old literals.old stamps.old) }
     ensures { Counted narrow text.now h line (count_at starts.old literals.old stamps.old) (count_at starts.new literals.new stamps.new) result }
 {
@@ -193,37 +186,20 @@ fn numbers(
         dropped: false,
         ended: 0,
     };
+    // Not a for: the last number is the one that is met at the text's end.
     loop {
         let m = numerals::number_at(text, c);
-        let k = m.numeral;
-        let after = m.next;
-        match at_numeral(starts, literals, stamps, h, g, k) {
+        match at_numeral(starts, literals, stamps, h, g, m.numeral)? {
             Pass::On(q) => {
                 g = q;
-                c = after;
+                c = m.next;
             }
-            Pass::Whole(p) => {
-                return Ended::Whole(p);
-            }
-            Pass::Refused(f) => {
-                return Ended::Refused(f);
-            }
+            Pass::Whole(p) => return Ok(p),
         }
     }
 }
 
 // ---- the text
-
-// A fault ends the reading.
-fn refused(reason: Reason, line: usize) -> Ended
-    requires { line < 2 ^ 32 }
-    ensures { result ≡ Refused (fault_at line reason) }
-{
-    Ended::Refused(Fault {
-        reason,
-        line: line as u32,
-    })
-}
 
 // A whole text: its header, the names of its variables, and its numbers.
 pub fn draft(
@@ -232,25 +208,21 @@ pub fn draft(
     starts: &mut [u16],
     literals: &mut [u16],
     stamps: &mut [u16],
-) -> Ended
+) -> Result<Place, Fault>
     requires { CanDraw narrow text.now names.old (count_at starts.old literals.old stamps.old) }
     ensures { Drawn narrow text.now names.old (count_at starts.old literals.old stamps.old)
         names.new (count_at starts.new literals.new stamps.new) result }
 {
     let c = numerals::past_comments(text);
-    let at = c.at;
-    let line = c.line;
-    if text.len() <= at {
-        return refused(Reason::HeaderForm, 0);
+    if text.len() <= c.at {
+        return Err(fault_at(Reason::HeaderForm, 0));
     }
-    match numerals::header_at(text, at) {
-        Headed::Malformed => refused(Reason::HeaderForm, line),
-        Headed::Says(h) => {
-            if 2048 < h.variables {
-                return refused(Reason::TooManyTerms, line);
-            }
-            put_names(names, h.variables as usize);
-            numbers(text, starts, literals, stamps, h, line)
-        }
+    let Some(h) = numerals::header_at(text, c.at) else {
+        return Err(fault_at(Reason::HeaderForm, c.line));
+    };
+    if 2048 < h.variables {
+        return Err(fault_at(Reason::TooManyTerms, c.line));
     }
+    put_names(names, h.variables as usize);
+    numbers(text, starts, literals, stamps, h, c.line)
 }

@@ -9,7 +9,7 @@ ghost use Rattle.written.specs.Numerals.{past_comments, sizes_at, header_at, pas
 ghost use Rattle.numerals.specs.Numbers.{Within, AtGap, Stops, is_whole};
 
 use scan::{Cursor, Kind};
-use written::{Headed, Header, Met, Numeral, Signed};
+use written::{Header, Met, Numeral, Signed};
 
 // Past the comment lines that a text begins with.
 pub fn past_comments(text: &[u8]) -> Cursor
@@ -29,31 +29,31 @@ pub fn past_comments(text: &[u8]) -> Cursor
 }
 
 // The header's numbers, of which the first begins at v.
-fn sizes_at(text: &[u8], v: usize) -> Headed
+fn sizes_at(text: &[u8], v: usize) -> Option<Header>
     ensures { result ≡ sizes_at text.now v }
 {
     if text.len() <= v {
-        return Headed::Malformed;
+        return None;
     }
     let variables_end = scan::skip(text, v, Kind::Word);
     if !digits::is_number(&text[v..variables_end]) {
-        return Headed::Malformed;
+        return None;
     }
     let c = scan::skip(text, variables_end, Kind::Blank);
     if c <= variables_end {
-        return Headed::Malformed;
+        return None;
     }
     let end = scan::skip(text, c, Kind::Word);
     if !digits::is_number(&text[c..end]) {
-        return Headed::Malformed;
+        return None;
     }
     if text.len() <= end {
-        return Headed::Malformed;
+        return None;
     }
     if text[end] != 10 {
-        return Headed::Malformed;
+        return None;
     }
-    Headed::Says(Header {
+    Some(Header {
         variables: digits::value(&text[v..variables_end]),
         clauses: digits::value(&text[c..end]),
         end,
@@ -61,26 +61,26 @@ fn sizes_at(text: &[u8], v: usize) -> Headed
 }
 
 // The header whose line begins at a place.
-pub fn header_at(text: &[u8], at: usize) -> Headed
+pub fn header_at(text: &[u8], at: usize) -> Option<Header>
     requires { length text.now < 2 ^ 32 }
     ensures { result ≡ header_at text.now at }
 {
     if text.len() <= at {
-        return Headed::Malformed;
+        return None;
     }
     if !digits::begins(&text[at..], b"p") {
-        return Headed::Malformed;
+        return None;
     }
     let k = scan::skip(text, at + 1, Kind::Blank);
     if k <= at + 1 {
-        return Headed::Malformed;
+        return None;
     }
     if !digits::begins(&text[k..], b"cnf") {
-        return Headed::Malformed;
+        return None;
     }
     let v = scan::skip(text, k + 3, Kind::Blank);
     if v <= k + 3 {
-        return Headed::Malformed;
+        return None;
     }
     sizes_at(text, v)
 }

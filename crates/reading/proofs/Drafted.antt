@@ -5,6 +5,7 @@ use Prim.Native.Nat.{ℕ, ◌+◌, ◌*◌, ◌≤◌, ◌<◌}
 use Rattle.std.specs.Prelude.{Result, Ok, ⊤}
 use Rattle.written.specs.declared.Reason.{Reason}
 use Rattle.written.specs.declared.Counts.{Counts}
+use Rattle.written.specs.declared.Fault.{Fault}
 use Rattle.written.specs.Limits.{Limits}
 use Rattle.written.specs.Clauses.{File}
 use Rattle.written.specs.Reading.{Reading, accepted, after_tests}
@@ -15,8 +16,6 @@ use Rattle.laws.proofs.Drafts.{Sound}
 use Rattle.machine.specs.Tallies.{tallies}
 use Rattle.machine.specs.Moving.{Fixed, fixed, Moving, moving}
 use Rattle.reading_lines.specs.declared.Place.{Place}
-use Rattle.reading_lines.specs.declared.Ended.{Ended}
-use Rattle.reading_lines.specs.declared.Ended.TheVariants as E
 use Rattle.reading_lines.specs.Drafting.{Desk}
 use Rattle.reading_end.specs.Tests.{text_tests}
 use Rattle.reading_end.specs.Bare.{Bare}
@@ -28,7 +27,7 @@ use Rattle.reading.proofs.Texts.{passed-read}
 
 -- put together from what the calls gave, as they gave it: the text's bytes come to r, v was answered to its tests, and the draft ended by z, in the tables w
 module _ (lim : Limits) (text : List ℕ) (r : Reading) (sound : Sound lim (after_tests lim text r)) (t : Tables) (b : Bare lim t) {v : Result ⊤ Reason} (asked : v ≡ text_tests lim text)
-    (told : v ≡ Ok tt) (w : Desk) {z : Ended} (drawn : Laying lim r (desk_in t) w z) {p : Place} (ended : z ≡ E.Whole p)
+    (told : v ≡ Ok tt) (w : Desk) {z : Result Place Fault} (drawn : Laying lim r (desk_in t) w z) {p : Place} (ended : z ≡ Ok p)
     (top : ℕ) (fc : lim.clauses + 1 < top) (ft : 2 * lim.terms < top) (fl : lim.literals < top) (cursors-fit : 2 * lim.terms ≤ lim.clauses) where
   gives : Gives lim r (desk_in t) w p
   gives = subst (Laying lim r (desk_in t) w) ended drawn

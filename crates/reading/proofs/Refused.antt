@@ -14,8 +14,7 @@ use Rattle.written.specs.Outcomes.{ten, ten_of, read_leaves}
 use Rattle.laws.proofs.Each.Table.{Names, Starts, Literals, Breaks, Places}
 use Rattle.laws.proofs.Holding.{full_at}
 use Rattle.laws.proofs.Tests.{not-both}
-use Rattle.reading_lines.specs.declared.Ended.{Ended}
-use Rattle.reading_lines.specs.declared.Ended.TheVariants as E
+use Rattle.reading_lines.specs.declared.Place.{Place}
 use Rattle.reading_lines.specs.Drafting.{Desk}
 use Rattle.reading_end.specs.Tests.{text_tests}
 use Rattle.reading_end.specs.Clearing.{desk_in, wiped}
@@ -76,7 +75,7 @@ module _ (lim : Limits) (text : List ℕ) (q : Reading) (t : Tables) (b : Bare l
     can_lay = bare_lay lim text q t b (sym asked ∙ told)
 
     -- the draft ended by z, in the tables w
-    pub was-refused : (w : Desk) {z : Ended} {e : Fault} → Laying lim q (desk_in t) w z → z ≡ E.Refused e → {d : Desk} → d ≡ wiped lim w
+    pub was-refused : (w : Desk) {z : Result Place Fault} {e : Fault} → Laying lim q (desk_in t) w z → z ≡ Err e → {d : Desk} → d ≡ wiped lim w
         → ten (Err e) (lent d.names t.values d.starts d.literals t.occurrence_starts t.occurrences t.trues d.stamps t.uncovered d.slots)
         ≡ ten_of (read_leaves lim t [] (after_tests lim text q))
     was-refused w drawn ended cleared =

@@ -10,7 +10,6 @@ ghost use Rattle.written.specs.Tables.{are_full};
 ghost use Rattle.written.specs.Outcomes.{leaves, ten, ten_of, read_leaves, read_into};
 ghost use Rattle.reading_end.specs.Bare.{Bare};
 
-use reading_lines::Ended;
 use tables::Tables;
 use written::{Counts, Fault, Form, Reason};
 
@@ -39,11 +38,11 @@ fn read_cleared(
 {
     reading_end::verdict(text).map_err(|reason| Fault { reason, line: 0 })?;
     match reading_draft::draft(form, text, names, starts, literals, breaks, places) {
-        Ended::Refused(fault) => {
+        Err(fault) => {
             reading_end::clear_draft(names, starts, literals, breaks, places);
             return Err(fault);
         }
-        Ended::Whole(p) => {
+        Ok(p) => {
             let n = reading_end::finish(
                 p,
                 values,

@@ -2,11 +2,12 @@
 use Prim.Native.Nat.{ℕ}
 use mathlib.Core.List.{List}
 use native.Mathlib.Omega.{arith}
+use Rattle.std.proofs.Common.{Result, Ok, Err}
+use Rattle.written.specs.declared.Fault.{Fault}
 use Rattle.written.specs.Limits.{Limits}
 use Rattle.written.specs.Numbered.{numbers_in}
 use Rattle.reading_literal.specs.Taking.{by_number}
-use Rattle.reading_lines.specs.declared.Ended.{Ended}
-use Rattle.reading_lines.specs.declared.Ended.TheVariants as E
+use Rattle.reading_lines.specs.declared.Place.{Place}
 use Rattle.reading_lines.specs.Drafting.{Desk}
 use Rattle.reading_lines.proofs.Loop.{Lent}
 use Rattle.reading_end.specs.Drawn.{CanLay, Laying}
@@ -30,11 +31,11 @@ module _ (lim : Limits) (t : List ℕ) (w₀ : Desk) (can : CanLay lim t w₀) w
         first = can.first;
       }
 
-  laid_by : (w : Desk) → Lent w₀ w → (z : Ended) → EndsBy lim (numbers_in lim t) w₀ w z → Laying lim (numbers_in lim t) w₀ w z
-  laid_by w long (E.Whole p) h = leads-gives by_number lim (omega arith) w₀ w t can long (numbers_in lim t) p h
-  laid_by w long (E.Refused e) h = (h.0, far_past by_number lim (omega arith) w₀ w t can long h.1)
+  laid_by : (w : Desk) → Lent w₀ w → (z : Result Place Fault) → EndsBy lim (numbers_in lim t) w₀ w z → Laying lim (numbers_in lim t) w₀ w z
+  laid_by w long (Ok p) h = leads-gives by_number lim (omega arith) w₀ w t can long (numbers_in lim t) p h
+  laid_by w long (Err e) h = (h.0, far_past by_number lim (omega arith) w₀ w t can long h.1)
 
   -- the slots are those that were lent
-  pub numbers_laying : (ns : List ℕ) (k : Count) → Lent w₀ (desk_with ns w₀.slots k) → (z : Ended) → Drawn lim t w₀.names (count_in w₀) ns k z
+  pub numbers_laying : (ns : List ℕ) (k : Count) → Lent w₀ (desk_with ns w₀.slots k) → (z : Result Place Fault) → Drawn lim t w₀.names (count_in w₀) ns k z
       → Laying lim (numbers_in lim t) w₀ (desk_with ns w₀.slots k) z
   numbers_laying ns k long z drawn = laid_by (desk_with ns w₀.slots k) long z (drawn.told w₀.slots)

@@ -7,8 +7,8 @@ ghost use Rattle.written.specs.Numbered.{read_by};
 ghost use Rattle.reading_lines.specs.Drafting.{desk_at};
 ghost use Rattle.reading_end.specs.Drawn.{CanLay, Laying};
 
-use reading_lines::Ended;
-use written::Form;
+use reading_lines::Place;
+use written::{Fault, Form};
 
 // Stamps stand in the break counts, slots in the places; numbered text leaves the slots as they are.
 pub fn draft(
@@ -19,7 +19,7 @@ pub fn draft(
     literals: &mut [u16],
     stamps: &mut [u16],
     slots: &mut [u16],
-) -> Ended
+) -> Result<Place, Fault>
     requires { CanLay narrow text.now (desk_at names.old starts.old literals.old stamps.old slots.old) }
     ensures { Laying narrow (read_by form narrow text.now) (desk_at names.old starts.old literals.old stamps.old slots.old)
         (desk_at names.new starts.new literals.new stamps.new slots.new) result }

@@ -3,13 +3,13 @@ use Prim.Native.Nat.{ℕ, ◌+◌, ◌≤◌, ◌<◌}
 use mathlib.Core.List.{List}
 use native.Mathlib.Omega.{arith}
 use lib.ListN.{length}
+use Rattle.std.proofs.Common.{Result, Ok, Err}
+use Rattle.written.specs.declared.Fault.{Fault}
 use Rattle.written.specs.Limits.{Limits}
 use Rattle.written.specs.Reading.{Reading, Draft}
 use Rattle.laws.proofs.Padding.{same-later}
 use Rattle.reading_literal.specs.Taking.{Index, by_slots}
 use Rattle.reading_lines.specs.declared.Place.{Place}
-use Rattle.reading_lines.specs.declared.Ended.{Ended}
-use Rattle.reading_lines.specs.declared.Ended.TheVariants as E
 use Rattle.reading_lines.specs.Drafting.{Desk, BeyondWith, DraftedWith, LeadsWith, Blank, whole, read_all, Drawn}
 use Rattle.reading_lines.proofs.Loop.{Lent}
 use Rattle.reading_end.specs.Laid.{PastOn, LaidOn}
@@ -81,6 +81,6 @@ module _ (H : ℕ) (lim : Limits) (slots-fit : H + lim.terms + 1 ≤ lim.clauses
         bare = λ j l. can.bare j (omega arith);
       }
 
-  pub drawn_laying : (w : Desk) → Lent w₀ w → (z : Ended) → Drawn H lim t w₀ w z → Laying lim (read_all lim t) w₀ w z
-  drawn_laying w long (E.Whole p) h = leads-gives (by_slots H lim) lim slots-fit w₀ w t can long (read_all lim t) p h
-  drawn_laying w long (E.Refused e) h = (h.0, far_past (by_slots H lim) lim slots-fit w₀ w t can long h.1)
+  pub drawn_laying : (w : Desk) → Lent w₀ w → (z : Result Place Fault) → Drawn H lim t w₀ w z → Laying lim (read_all lim t) w₀ w z
+  drawn_laying w long (Ok p) h = leads-gives (by_slots H lim) lim slots-fit w₀ w t can long (read_all lim t) p h
+  drawn_laying w long (Err e) h = (h.0, far_past (by_slots H lim) lim slots-fit w₀ w t can long h.1)

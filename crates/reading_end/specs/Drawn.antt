@@ -1,12 +1,11 @@
 -- What a draft of any kind of text asks of its tables, and what it came to: the reading's file laid in them, or the reading's fault. Assumes nothing.
-use Rattle.std.specs.Prelude.{ℕ, ◌+◌, ◌≤◌, ◌<◌, ◌≡◌, List, false, length, get_or}
+use Rattle.std.specs.Prelude.{ℕ, ◌+◌, ◌≤◌, ◌<◌, ◌≡◌, List, false, length, get_or, Result, Ok, Err}
 use Rattle.scan.specs.Scan.{open_end}
+use Rattle.written.specs.declared.Fault.{Fault}
 use Rattle.written.specs.Limits.{Limits}
 use Rattle.written.specs.Clauses.{File}
 use Rattle.written.specs.Reading.{Reading, accepted, refused}
 use Rattle.reading_lines.specs.declared.Place.{Place}
-use Rattle.reading_lines.specs.declared.Ended.{Ended}
-use Rattle.reading_lines.specs.declared.Ended.TheVariants as E
 use Rattle.reading_lines.specs.Drafting.{Desk}
 use Rattle.reading_end.specs.Laid.{PastOn, LaidOn}
 
@@ -29,6 +28,6 @@ pub record Gives (lim : Limits) (r : Reading) (w₀ w : Desk) (p : Place) : Type
   pub laid : LaidOn lim w₀ w p file
 
 -- what a draft ends with is the reading r of its text; the tables were w₀ when they were lent
-abbrev pub Laying : Limits → Reading → Desk → Desk → Ended → Type 0
-Laying lim r w₀ w (E.Whole p) = Gives lim r w₀ w p
-Laying lim r w₀ w (E.Refused e) = (r ≡ refused e) × PastOn lim w₀ w
+abbrev pub Laying : Limits → Reading → Desk → Desk → Result Place Fault → Type 0
+Laying lim r w₀ w (Ok p) = Gives lim r w₀ w p
+Laying lim r w₀ w (Err e) = (r ≡ refused e) × PastOn lim w₀ w

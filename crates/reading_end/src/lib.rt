@@ -70,11 +70,7 @@ fn clear_rest(table: &mut [u16], from: usize, n: usize)
     requires { (from ≤ n) × (n ≤ length table.old) }
     ensures { table.new ≡ rest_zeroed n from table.old }
 {
-    let mut i = from;
-    while i < n {
-        table[i] = 0;
-        i += 1;
-    }
+    table[from..n].fill(0);
 }
 
 // ---- a whole draft
@@ -124,9 +120,7 @@ pub fn finish(
     recounts::close_all(clauses, trues, places);
     let left = number as u32;
     Counts {
-        terms: n.terms,
-        clauses: n.clauses,
-        literals: n.literals,
         uncovered: left,
+        ..n
     }
 }

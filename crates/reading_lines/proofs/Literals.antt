@@ -7,8 +7,9 @@ use native.Mathlib.Nat.{add-zero}
 use native.Mathlib.Omega.{arith}
 use lib.ListN.{length, take, drop}
 use lib.Dec.{leb}
+use Rattle.std.proofs.Common.{Result, Ok, Err}
 use Rattle.scan.specs.declared.Lit.{Lit}
-use Rattle.written.specs.declared.Reason.TheVariants.{TooManyTerms, TooManyLiterals}
+use Rattle.written.specs.declared.Reason.{Reason}
 use Rattle.written.specs.Lists.{has, place_of}
 use Rattle.written.specs.Limits.{Limits}
 use Rattle.written.specs.Clauses.{literal_of}
@@ -17,7 +18,7 @@ use Rattle.written.specs.Tables.{over}
 use Rattle.written.specs.Reading.{Draft, Turn, goes, drops, stops, numbered, held, dropped, at_literal}
 use Rattle.laws.proofs.Basics.{by_cases}
 use Rattle.reading_literal.specs.declared.Taken.{Taken}
-use Rattle.reading_literal.specs.declared.Taken.TheVariants.{Held, Grown, Skipped, Dropped, NoTerm, NoRoom}
+use Rattle.reading_literal.specs.declared.Taken.TheVariants.{Held, Grown, Skipped, Dropped}
 use Rattle.reading_literal.specs.Line.{line_in}
 use Rattle.reading_literal.specs.Taking.{Index, fate, new_terms, new_literals, put_if, TookWith}
 use Rattle.reading_lines.specs.declared.Place.{Place}
@@ -27,18 +28,17 @@ use Rattle.reading_lines.proofs.Growing.{more_if, more-length, put-over, put-tak
 use Rattle.reading_lines.proofs.Held.{known_are, held_are, given_back_lem}
 
 -- the draft with what a literal adds to it
-abbrev grown : Draft → Lit → Taken → Draft
+abbrev grown : Draft → Lit → Result Taken Reason → Draft
 grown d l r =
     record { names = more_if (new_terms r) d.names l.name; clauses = d.clauses; line = more_if (new_literals r) d.line (numbered d l l.negated) }
 
 -- the written turn, by what becomes of the literal
-abbrev turn_by : Draft → Lit → Taken → Turn
-turn_by d l Held = goes (grown d l Held)
-turn_by d l Grown = goes (grown d l Grown)
-turn_by d l Skipped = goes d
-turn_by d l Dropped = drops (dropped d)
-turn_by d l NoTerm = stops (fault_at l.line TooManyTerms)
-turn_by d l NoRoom = stops (fault_at l.line TooManyLiterals)
+abbrev turn_by : Draft → Lit → Result Taken Reason → Turn
+turn_by d l (Ok Held) = goes (grown d l (Ok Held))
+turn_by d l (Ok Grown) = goes (grown d l (Ok Grown))
+turn_by d l (Ok Skipped) = goes d
+turn_by d l (Ok Dropped) = drops (dropped d)
+turn_by d l (Err e) = stops (fault_at l.line e)
 
 by-fate : (lim : Limits) (d : Draft) (l : Lit) → at_literal lim d l ≡ turn_by d l (fate lim d.names d.line (held d) l.name l.negated)
 unfolding at_literal fate
@@ -50,23 +50,22 @@ by-fate lim d l =
     (by_cases (has l.name d.names) (λ g. rw g refl) (λ g. rw g refl)))))))))
 
 -- it adds one term and one literal at the most
-one_each : (r : Taken) → (new_terms r ≤ 1) × (new_literals r ≤ 1)
-one_each Held = (omega arith, omega arith)
-one_each Grown = (omega arith, omega arith)
-one_each Skipped = (omega arith, omega arith)
-one_each Dropped = (omega arith, omega arith)
-one_each NoTerm = (omega arith, omega arith)
-one_each NoRoom = (omega arith, omega arith)
+one_each : (r : Result Taken Reason) → (new_terms r ≤ 1) × (new_literals r ≤ 1)
+one_each (Ok Held) = (omega arith, omega arith)
+one_each (Ok Grown) = (omega arith, omega arith)
+one_each (Ok Skipped) = (omega arith, omega arith)
+one_each (Ok Dropped) = (omega arith, omega arith)
+one_each (Err e) = (omega arith, omega arith)
 
 module _ (X : Index) (lim : Limits) (w₀ w : Desk) (p : Place) (d : Draft) (h : DraftedWith X lim w₀ w p d) (l : Lit) (n' ls' m' o' : List ℕ) where
   -- the tables after it
   abbrev w' : Desk
   w' = desk n' w.starts ls' m' o'
 
-  abbrev Taking : Taken → Type 0
+  abbrev Taking : Result Taken Reason → Type 0
   Taking r = TookWith X lim w.names p.terms w.literals p.from p.held w.stamps w.slots l.name l.negated n' ls' m' o' r
 
-  module _ (r : Taken) (k : Taking r) where
+  module _ (r : Result Taken Reason) (k : Taking r) where
     turn_is : at_literal lim d l ≡ turn_by d l r
     turn_is =
         let known = known_are X lim w₀ w p d h in
@@ -114,15 +113,14 @@ module _ (X : Index) (lim : Limits) (w₀ w : Desk) (p : Place) (d : Draft) (h :
           beyond = still-beyond;
         }
 
-  pub literal-turns : (r : Taken) → Taking r → TurnedWith X lim w₀ w' (at_literal lim d l) (after_literal r p l.line)
-  literal-turns Held k = record { draft = grown d l Held; is = turn_is Held k; drafted = rw (add-zero p.terms) at (taken_in Held k) }
-  literal-turns Grown k = record { draft = grown d l Grown; is = turn_is Grown k; drafted = taken_in Grown k }
-  literal-turns Skipped k = record { draft = d; is = turn_is Skipped k; drafted = rw (add-zero p.terms, add-zero p.held) at (taken_in Skipped k) }
-  literal-turns Dropped k =
+  pub literal-turns : (r : Result Taken Reason) → Taking r → TurnedWith X lim w₀ w' (at_literal lim d l) (after_literal r p l.line)
+  literal-turns (Ok Held) k = record { draft = grown d l (Ok Held); is = turn_is (Ok Held) k; drafted = rw (add-zero p.terms) at (taken_in (Ok Held) k) }
+  literal-turns (Ok Grown) k = record { draft = grown d l (Ok Grown); is = turn_is (Ok Grown) k; drafted = taken_in (Ok Grown) k }
+  literal-turns (Ok Skipped) k = record { draft = d; is = turn_is (Ok Skipped) k; drafted = rw (add-zero p.terms, add-zero p.held) at (taken_in (Ok Skipped) k) }
+  literal-turns (Ok Dropped) k =
       record {
         draft = dropped d;
-        is = turn_is Dropped k;
-        drafted = given_back_lem X lim w₀ w' p d (rw (add-zero p.terms, add-zero p.held) at (taken_in Dropped k));
+        is = turn_is (Ok Dropped) k;
+        drafted = given_back_lem X lim w₀ w' p d (rw (add-zero p.terms, add-zero p.held) at (taken_in (Ok Dropped) k));
       }
-  literal-turns NoTerm k = (turn_is NoTerm k, still-beyond NoTerm k)
-  literal-turns NoRoom k = (turn_is NoRoom k, still-beyond NoRoom k)
+  literal-turns (Err e) k = (turn_is (Err e) k, still-beyond (Err e) k)

@@ -5,10 +5,12 @@ use mathlib.Core.List.{List, []}
 use native.Mathlib.Omega.{arith}
 use lib.ListN.{length, take}
 use lib.Seq.{length-take-le}
+use Rattle.std.proofs.Common.{Result, Ok, Err}
 use Rattle.scan.specs.declared.Cursor.{Cursor}
 use Rattle.scan.specs.declared.Step.{Step}
 use Rattle.scan.specs.Scan.{scan, start, passed, line_of}
 use Rattle.scan.proofs.Advance.{scan-falls}
+use Rattle.written.specs.declared.Fault.{Fault}
 use Rattle.written.specs.Limits.{Limits}
 use Rattle.written.specs.Reading.{Reading, Draft, Turn, nothing, at_token, next_line, led, read_from}
 use Rattle.laws.proofs.Times.{times-le}
@@ -21,7 +23,6 @@ use Rattle.reading_literal.specs.Taking.{by_slots}
 use Rattle.reading_lines.specs.declared.Place.{Place}
 use Rattle.reading_lines.specs.declared.Next.{Next}
 use Rattle.reading_lines.specs.declared.Next.TheVariants as N
-use Rattle.reading_lines.specs.declared.Ended.TheVariants as E
 use Rattle.reading_lines.specs.Drafting.{Desk, DraftedWith, GoingWith, TurnedWith, TurnsWith, Blank, read_all, Drawn}
 use Rattle.reading_lines.specs.Turns.{outset}
 use Rattle.reading_lines.proofs.Held.{begins-drafted}
@@ -159,17 +160,17 @@ module _ (H : ℕ) (lim : Limits) (t : List ℕ) where
       )
 
       -- after a token that left the cursor at c': on, or the reading
-      abbrev pub Follows : Cursor → Next → Type 0
-      Follows c' (N.Goes q) = GoesOn c' q
-      Follows c' (N.Drops q) = GoesOn (next_line t c') q
-      Follows c' (N.Whole q) = Drawn H lim t w₀ w' (E.Whole q)
-      Follows c' (N.Refused f) = Drawn H lim t w₀ w' (E.Refused f)
+      abbrev pub Follows : Cursor → Result Next Fault → Type 0
+      Follows c' (Ok (N.Goes q)) = GoesOn c' q
+      Follows c' (Ok (N.Drops q)) = GoesOn (next_line t c') q
+      Follows c' (Ok (N.Whole q)) = Drawn H lim t w₀ w' (Ok q)
+      Follows c' (Err f) = Drawn H lim t w₀ w' (Err f)
 
-      follows : (n : Next) → TurnedWith (by_slots H lim) lim w₀ w' turn n → Follows (scan t c).next n
-      follows (N.Goes q) l = goes_on (scan t c).next q l.draft l.drafted (nearer l.is) (read-on l.is)
-      follows (N.Drops q) l = goes_on (next_line t (scan t c).next) q l.draft l.drafted (nearer l.is) (read-on l.is)
-      follows (N.Whole q) l = record { draft = l.draft; is = read-on l.is; drafted = l.drafted }
-      follows (N.Refused f) l = (read-on l.0, l.1)
+      follows : (n : Result Next Fault) → TurnedWith (by_slots H lim) lim w₀ w' turn n → Follows (scan t c).next n
+      follows (Ok (N.Goes q)) l = goes_on (scan t c).next q l.draft l.drafted (nearer l.is) (read-on l.is)
+      follows (Ok (N.Drops q)) l = goes_on (next_line t (scan t c).next) q l.draft l.drafted (nearer l.is) (read-on l.is)
+      follows (Ok (N.Whole q)) l = record { draft = l.draft; is = read-on l.is; drafted = l.drafted }
+      follows (Err f) l = (read-on l.0, l.1)
 
-      pub turned_on : (s : Step) (n : Next) → s ≡ scan t c → TurnsWith (by_slots H lim) lim s.token w p w' n → Follows s.next n
+      pub turned_on : (s : Step) (n : Result Next Fault) → s ≡ scan t c → TurnsWith (by_slots H lim) lim s.token w p w' n → Follows s.next n
       turned_on s n e k = rw e (follows n ((rw e at k).told w₀ u.draft u.drafted))

@@ -6,9 +6,11 @@ use native.Mathlib.Omega.{arith}
 use borrow.Author.Tests.{eqb-true, eqb-false, leb-true, leb-false, eq-eqb, ne_eqb, le-leb, lt-leb}
 use lib.ListN.{length, set}
 use lib.Dec.{eqb, leb}
+use Rattle.std.proofs.Common.{Result, Ok, Err}
 use Rattle.scan.specs.declared.Lit.{Lit}
 use Rattle.scan.specs.declared.Token.{Token}
 use Rattle.scan.specs.declared.Token.TheVariants.{Literal, True, Line, End}
+use Rattle.written.specs.declared.Reason.{Reason}
 use Rattle.written.specs.declared.Reason.TheVariants.{TooManyClauses, NoClause, BlankLine}
 use Rattle.written.specs.declared.Fault.{Fault}
 use Rattle.written.specs.Limits.{Limits}
@@ -29,17 +31,17 @@ use Rattle.reading_lines.proofs.Literals.{literal-turns}
 -- ---- a line's end in the code, by each way through its tests
 
 module _ (lim : Limits) (p : Place) (n : ℕ) (ss : List ℕ) where
-  pub nothing-held : p.held ≡ p.from → {r : Next} → r ≡ N.Refused (fault_at n BlankLine) → line_end r ss ≡ after_line lim p n ss
+  pub nothing-held : p.held ≡ p.from → {f : Fault} → f ≡ fault_at n BlankLine → line_end (Err f) ss ≡ after_line lim p n ss
   unfolding after_line
-  nothing-held e told = ap (λ (r : Next). line_end r ss) told ∙ rw (eq-eqb p.held p.from e) refl
+  nothing-held e told = ap (λ (f : Fault). line_end (Err f) ss) told ∙ rw (eq-eqb p.held p.from e) refl
 
   module _ (some : p.held ≡ p.from → ⊥) where
-    pub no_room : lim.clauses ≤ p.clauses → {r : Next} → r ≡ N.Refused (fault_at n TooManyClauses) → line_end r ss ≡ after_line lim p n ss
+    pub no_room : lim.clauses ≤ p.clauses → {f : Fault} → f ≡ fault_at n TooManyClauses → line_end (Err f) ss ≡ after_line lim p n ss
     unfolding after_line
-    no_room full told = ap (λ (r : Next). line_end r ss) told ∙ rw (ne_eqb p.held p.from some, le-leb lim.clauses p.clauses full) refl
+    no_room full told = ap (λ (f : Fault). line_end (Err f) ss) told ∙ rw (ne_eqb p.held p.from some, le-leb lim.clauses p.clauses full) refl
 
     pub line-closed : p.clauses < lim.clauses
-        → line_end (N.Goes (place_at p.terms (p.clauses + 1) p.held p.held)) (set ss (p.clauses + 1) p.held) ≡ after_line lim p n ss
+        → line_end (Ok (N.Goes (place_at p.terms (p.clauses + 1) p.held p.held))) (set ss (p.clauses + 1) p.held) ≡ after_line lim p n ss
     unfolding after_line
     line-closed room = rw (ne_eqb p.held p.from some, lt-leb lim.clauses p.clauses room) refl
 
@@ -58,13 +60,13 @@ text-whole ns (c ∷ cs) ls e = refl
 -- ---- the tokens
 
 module _ (X : Index) (lim : Limits) (w : Desk) (p : Place) where
-  pub literal-by : (l : Lit) (n' ls' m' o' : List ℕ) (r : Taken) {q : Next}
+  pub literal-by : (l : Lit) (n' ls' m' o' : List ℕ) (r : Result Taken Reason) {q : Result Next Fault}
       → TookWith X lim w.names p.terms w.literals p.from p.held w.stamps w.slots l.name l.negated n' ls' m' o' r
       → q ≡ after_literal r p l.line → TurnsWith X lim (Literal l) w p (desk n' w.starts ls' m' o') q
   unfolding at_token
   literal-by l n' ls' m' o' r k e = record { told = λ w₀ d h. rw e (literal-turns X lim w₀ w p d h l n' ls' m' o' r k) }
 
-  pub true-by : (n : ℕ) → TurnsWith X lim (True n) w p w (N.Drops (given_back p))
+  pub true-by : (n : ℕ) → TurnsWith X lim (True n) w p w (Ok (N.Drops (given_back p)))
   unfolding at_token
   true-by n = record { told = λ w₀ d h. record { draft = dropped d; is = refl; drafted = given_back_lem X lim w₀ w p d h } }
 
@@ -89,7 +91,7 @@ module _ (X : Index) (lim : Limits) (w : Desk) (p : Place) where
       let few : length d.clauses < lim.clauses = omega (arith, leb-false lim.clauses p.clauses room, h.clauses_are) in
       record { draft = kept d; is = line-room lim d n d.line more few; drafted = line_kept X lim w₀ w p d h few }))
 
-  pub line-by : (n : ℕ) (ss : List ℕ) {q : Next} → line_end q ss ≡ after_line lim p n w.starts → TurnsWith X lim (Line n) w p (ended ss) q
+  pub line-by : (n : ℕ) (ss : List ℕ) {q : Result Next Fault} → line_end q ss ≡ after_line lim p n w.starts → TurnsWith X lim (Line n) w p (ended ss) q
   unfolding at_token
   line-by n ss e =
       record { told = λ w₀ d h. subst (Ends n w₀ d) (sym e) (line-turns n w₀ d h) }
@@ -103,10 +105,10 @@ module _ (X : Index) (lim : Limits) (w : Desk) (p : Place) where
       (λ some.
       record { draft = d; is = text-whole d.names d.clauses d.line (λ e. omega (arith, eqb-false p.clauses 0 some, h.clauses_are)); drafted = h })
 
-  pub end_by : (n : ℕ) {q : Next} → q ≡ after_text p → TurnsWith X lim (End n) w p w q
+  pub end_by : (n : ℕ) {q : Result Next Fault} → q ≡ after_text p → TurnsWith X lim (End n) w p w q
   unfolding at_token
   end_by n e = record { told = λ w₀ d h. rw e (text-turns w₀ d h) }
 
   -- a token that stops the reading
-  pub fault-by : (k : Token) (f : Fault) → ((d : Draft) → at_token lim d k ≡ stops f) → TurnsWith X lim k w p w (N.Refused f)
+  pub fault-by : (k : Token) (f : Fault) → ((d : Draft) → at_token lim d k ≡ stops f) → TurnsWith X lim k w p w (Err f)
   fault-by k f e = record { told = λ w₀ d h. (e d, h.beyond) }

@@ -1,7 +1,8 @@
 -- The tables of a reading on its way, the draft that they hold, and how the code's turns are the written ones. Assumes nothing.
-use Rattle.std.specs.Prelude.{ℕ, ◌+◌, ◌≤◌, ◌<◌, ◌≡◌, length, get_or, take, drop}
+use Rattle.std.specs.Prelude.{ℕ, ◌+◌, ◌≤◌, ◌<◌, ◌≡◌, length, get_or, take, drop, Result, Ok, Err}
 use mathlib.Core.List.{List, flatten}
 use Rattle.scan.specs.declared.Token.{Token}
+use Rattle.written.specs.declared.Fault.{Fault}
 use Rattle.written.specs.Lists.{total}
 use Rattle.written.specs.Limits.{Limits}
 use Rattle.written.specs.Tables.{starts_from, over}
@@ -12,8 +13,6 @@ use Rattle.reading_literal.specs.Taking.{Index, by_slots, OpenWith}
 use Rattle.reading_lines.specs.declared.Place.{Place}
 use Rattle.reading_lines.specs.declared.Next.{Next}
 use Rattle.reading_lines.specs.declared.Next.TheVariants as N
-use Rattle.reading_lines.specs.declared.Ended.{Ended}
-use Rattle.reading_lines.specs.declared.Ended.TheVariants as E
 
 -- the tables that a draft is made in
 pub record Desk : Type 0 where
@@ -68,14 +67,14 @@ abbrev pub whole : Draft → Reading
 whole d = accepted (record { names = d.names; clauses = d.clauses })
 
 -- where the code goes is the written turn u
-abbrev pub TurnedWith : Index → Limits → Desk → Desk → Turn → Next → Type 0
-TurnedWith X lim w₀ w u (N.Goes p) = LeadsWith u goes X lim w₀ w p
-TurnedWith X lim w₀ w u (N.Drops p) = LeadsWith u drops X lim w₀ w p
-TurnedWith X lim w₀ w u (N.Whole p) = LeadsWith u (λ d. ends (whole d)) X lim w₀ w p
-TurnedWith X lim w₀ w u (N.Refused f) = (u ≡ ends (refused f)) × BeyondWith X lim w₀ w
+abbrev pub TurnedWith : Index → Limits → Desk → Desk → Turn → Result Next Fault → Type 0
+TurnedWith X lim w₀ w u (Ok (N.Goes p)) = LeadsWith u goes X lim w₀ w p
+TurnedWith X lim w₀ w u (Ok (N.Drops p)) = LeadsWith u drops X lim w₀ w p
+TurnedWith X lim w₀ w u (Ok (N.Whole p)) = LeadsWith u (λ d. ends (whole d)) X lim w₀ w p
+TurnedWith X lim w₀ w u (Err f) = (u ≡ ends (refused f)) × BeyondWith X lim w₀ w
 
 -- whatever draft the tables held, the token k has done to it what is written
-pub record TurnsWith (X : Index) (lim : Limits) (k : Token) (w : Desk) (p : Place) (w' : Desk) (r : Next) : Type 0 where
+pub record TurnsWith (X : Index) (lim : Limits) (k : Token) (w : Desk) (p : Place) (w' : Desk) (r : Result Next Fault) : Type 0 where
   pub told : (w₀ : Desk) (d : Draft) → DraftedWith X lim w₀ w p d → TurnedWith X lim w₀ w' (at_token lim d k) r
 
 -- the same with names looked up by their homes, of which there are H
@@ -91,10 +90,10 @@ Going H lim w p = GoingWith (by_slots H lim) lim w p
 abbrev pub Leads : {A : Type 0} → A → (Draft → A) → ℕ → Limits → Desk → Desk → Place → Type 0
 Leads u from H lim w₀ w p = LeadsWith u from (by_slots H lim) lim w₀ w p
 
-abbrev pub Turned : ℕ → Limits → Desk → Desk → Turn → Next → Type 0
+abbrev pub Turned : ℕ → Limits → Desk → Desk → Turn → Result Next Fault → Type 0
 Turned H lim w₀ w u r = TurnedWith (by_slots H lim) lim w₀ w u r
 
-abbrev pub TurnsBy : ℕ → Limits → Token → Desk → Place → Desk → Next → Type 0
+abbrev pub TurnsBy : ℕ → Limits → Token → Desk → Place → Desk → Result Next Fault → Type 0
 TurnsBy H lim k w p w' r = TurnsWith (by_slots H lim) lim k w p w' r
 
 -- what a draft of the text t asks of its tables at first; H homes of names have H + terms + 1 slots
@@ -114,6 +113,6 @@ abbrev pub read_all : Limits → List ℕ → Reading
 read_all lim t = from_left lim t
 
 -- what the code ends with is the written reading of the text t
-abbrev pub Drawn : ℕ → Limits → List ℕ → Desk → Desk → Ended → Type 0
-Drawn H lim t w₀ w (E.Whole p) = Leads (read_all lim t) whole H lim w₀ w p
-Drawn H lim t w₀ w (E.Refused f) = (read_all lim t ≡ refused f) × Beyond H lim w₀ w
+abbrev pub Drawn : ℕ → Limits → List ℕ → Desk → Desk → Result Place Fault → Type 0
+Drawn H lim t w₀ w (Ok p) = Leads (read_all lim t) whole H lim w₀ w p
+Drawn H lim t w₀ w (Err f) = (read_all lim t ≡ refused f) × Beyond H lim w₀ w

@@ -1,10 +1,12 @@
 -- What each token leads to, by the place of a draft: the code's turns, operation by operation. Assumes nothing.
-use Rattle.std.specs.Prelude.{ℕ, ◌+◌, cond, List, set, eqb, leb}
-use Rattle.written.specs.declared.Reason.TheVariants.{TooManyTerms, TooManyLiterals, TooManyClauses, NoClause, BlankLine}
+use Rattle.std.specs.Prelude.{ℕ, ◌+◌, cond, List, set, eqb, leb, Result, Ok, Err}
+use Rattle.written.specs.declared.Reason.{Reason}
+use Rattle.written.specs.declared.Reason.TheVariants.{TooManyClauses, NoClause, BlankLine}
+use Rattle.written.specs.declared.Fault.{Fault}
 use Rattle.written.specs.Limits.{Limits}
 use Rattle.written.specs.Reasons.{fault, fault_at}
 use Rattle.reading_literal.specs.declared.Taken.{Taken}
-use Rattle.reading_literal.specs.declared.Taken.TheVariants.{Held, Grown, Skipped, Dropped, NoTerm, NoRoom}
+use Rattle.reading_literal.specs.declared.Taken.TheVariants.{Held, Grown, Skipped, Dropped}
 use Rattle.reading_lines.specs.declared.Place.{Place}
 use Rattle.reading_lines.specs.declared.Next.{Next}
 use Rattle.reading_lines.specs.declared.Next.TheVariants as N
@@ -21,28 +23,27 @@ abbrev pub given_back : Place → Place
 given_back p = place_at p.terms p.clauses p.from p.from
 
 -- a literal, by what became of it
-abbrev pub after_literal : Taken → Place → ℕ → Next
-after_literal Held p n = N.Goes (place_at p.terms p.clauses p.from (p.held + 1))
-after_literal Grown p n = N.Goes (place_at (p.terms + 1) p.clauses p.from (p.held + 1))
-after_literal Skipped p n = N.Goes p
-after_literal Dropped p n = N.Drops (given_back p)
-after_literal NoTerm p n = N.Refused (fault_at n TooManyTerms)
-after_literal NoRoom p n = N.Refused (fault_at n TooManyLiterals)
+abbrev pub after_literal : Result Taken Reason → Place → ℕ → Result Next Fault
+after_literal (Ok Held) p n = Ok (N.Goes (place_at p.terms p.clauses p.from (p.held + 1)))
+after_literal (Ok Grown) p n = Ok (N.Goes (place_at (p.terms + 1) p.clauses p.from (p.held + 1)))
+after_literal (Ok Skipped) p n = Ok (N.Goes p)
+after_literal (Ok Dropped) p n = Ok (N.Drops (given_back p))
+after_literal (Err e) p n = Err (fault_at n e)
 
 -- what a line's end leads to, and the starts that it leaves
 pub record LineEnd : Type 0 where
-  pub next : Next
+  pub next : Result Next Fault
   pub starts : List ℕ
 
-abbrev pub line_end : Next → List ℕ → LineEnd
+abbrev pub line_end : Result Next Fault → List ℕ → LineEnd
 line_end r ss = record { next = r; starts = ss }
 
 unfoldable pub after_line : Limits → Place → ℕ → List ℕ → LineEnd
 after_line lim p n ss =
-    cond (eqb p.held p.from) (line_end (N.Refused (fault_at n BlankLine)) ss)
-    (cond (leb lim.clauses p.clauses) (line_end (N.Refused (fault_at n TooManyClauses)) ss)
-    (line_end (N.Goes (place_at p.terms (p.clauses + 1) p.held p.held)) (set ss (p.clauses + 1) p.held)))
+    cond (eqb p.held p.from) (line_end (Err (fault_at n BlankLine)) ss)
+    (cond (leb lim.clauses p.clauses) (line_end (Err (fault_at n TooManyClauses)) ss)
+    (line_end (Ok (N.Goes (place_at p.terms (p.clauses + 1) p.held p.held))) (set ss (p.clauses + 1) p.held)))
 
 -- the text's end
-unfoldable pub after_text : Place → Next
-after_text p = cond (eqb p.clauses 0) (N.Refused (fault NoClause)) (N.Whole p)
+unfoldable pub after_text : Place → Result Next Fault
+after_text p = cond (eqb p.clauses 0) (Err (fault NoClause)) (Ok (N.Whole p))

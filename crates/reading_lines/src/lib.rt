@@ -7,7 +7,6 @@ ghost use Rattle.scan.specs.Scan.{line_of};
 ghost use Rattle.written.specs.Limits.{narrow};
 ghost use Rattle.written.specs.Reasons.{fault_at};
 ghost use Rattle.names.specs.Finding.{homes};
-ghost use Rattle.reading_lines.specs.declared.Next.TheVariants.{Refused};
 ghost use Rattle.reading_lines.specs.Drafting.{desk_at, Going, TurnsBy, Blank, Drawn};
 ghost use Rattle.reading_lines.specs.Turns.{given_back, after_literal, line_end, after_line, after_text};
 
@@ -24,31 +23,23 @@ pub struct Place {
     pub held: usize,
 }
 
-// Where a token leads: on, past the rest of a line that is dropped, to the text's end with a clause kept, or to a fault.
+// Where a token leads that is no fault: on, past the rest of a line that is dropped, or to the text's end with a clause kept.
 #[derive(Clone, Copy)]
 pub enum Next {
     Goes(Place),
     Drops(Place),
     Whole(Place),
-    Refused(Fault),
 }
 
-// What a text comes to.
-#[derive(Clone, Copy)]
-pub enum Ended {
-    Whole(Place),
-    Refused(Fault),
-}
-
-// A fault ends the reading.
-pub fn refused(reason: Reason, line: usize) -> Next
+// A reason and the line where the reading ends.
+pub fn fault_at(reason: Reason, line: usize) -> Fault
     requires { line < 2 ^ 32 }
-    ensures { result ≡ Refused (fault_at line reason) }
+    ensures { result ≡ fault_at line reason }
 {
-    Next::Refused(Fault {
+    Fault {
         reason,
         line: line as u32,
-    })
+    }
 }
 
 // A dropped line gives back its literals; its terms stay known.
@@ -56,69 +47,62 @@ fn given_back(place: Place) -> Place
     ensures { result ≡ given_back place }
 {
     Place {
-        terms: place.terms,
-        clauses: place.clauses,
-        from: place.from,
         held: place.from,
+        ..place
     }
 }
 
 // What a literal leads to, by what became of it.
-pub fn after_literal(t: Taken, p: Place, line: usize) -> Next
+pub fn after_literal(t: Result<Taken, Reason>, p: Place, line: usize) -> Result<Next, Fault>
     requires { (line < 2 ^ 32) × (p.terms < 2 ^ 16) × (p.held < 2 ^ 16) }
     ensures { result ≡ after_literal t p line }
 {
     match t {
-        Taken::Held => Next::Goes(Place {
-            terms: p.terms,
-            clauses: p.clauses,
-            from: p.from,
+        Ok(Taken::Held) => Ok(Next::Goes(Place {
             held: p.held + 1,
-        }),
-        Taken::Grown => Next::Goes(Place {
+            ..p
+        })),
+        Ok(Taken::Grown) => Ok(Next::Goes(Place {
             terms: p.terms + 1,
-            clauses: p.clauses,
-            from: p.from,
             held: p.held + 1,
-        }),
-        Taken::Skipped => Next::Goes(p),
-        Taken::Dropped => Next::Drops(given_back(p)),
-        Taken::NoTerm => refused(Reason::TooManyTerms, line),
-        Taken::NoRoom => refused(Reason::TooManyLiterals, line),
+            ..p
+        })),
+        Ok(Taken::Skipped) => Ok(Next::Goes(p)),
+        Ok(Taken::Dropped) => Ok(Next::Drops(given_back(p))),
+        Err(reason) => Err(fault_at(reason, line)),
     }
 }
 
 // A line with literals is kept as a clause, if there is room for one; a line without is refused.
-pub fn at_line_end(starts: &mut [u16], p: Place, line: usize) -> Next
+pub fn at_line_end(starts: &mut [u16], p: Place, line: usize) -> Result<Next, Fault>
     requires { (line < 2 ^ 32) × (p.held < 2 ^ 16) × (narrow.clauses < length starts.old) }
     ensures { line_end result starts.new ≡ after_line narrow p line starts.old }
 {
     let clauses = p.clauses;
     let held = p.held;
     if held == p.from {
-        return refused(Reason::BlankLine, line);
+        return Err(fault_at(Reason::BlankLine, line));
     }
     if 8192 <= clauses {
-        return refused(Reason::TooManyClauses, line);
+        return Err(fault_at(Reason::TooManyClauses, line));
     }
     let next = clauses + 1;
     starts[next] = held as u16;
-    Next::Goes(Place {
-        terms: p.terms,
+    Ok(Next::Goes(Place {
         clauses: next,
         from: held,
-        held,
-    })
+        ..p
+    }))
 }
 
 // A text is whole if a clause is kept.
-pub fn at_text_end(p: Place) -> Next
+pub fn at_text_end(p: Place) -> Result<Next, Fault>
     ensures { result ≡ after_text p }
 {
     if p.clauses == 0 {
-        return refused(Reason::NoClause, 0);
+        return Err(fault_at(Reason::NoClause, 0));
     }
-    Next::Whole(p)
+    Ok(Next::Whole(p))
 }
 
 // What a token does to the draft, and where it leads.
@@ -130,7 +114,7 @@ fn at_token(
     slots: &mut [u16],
     p: Place,
     k: Token,
-) -> Next
+) -> Result<Next, Fault>
     requires { Going homes narrow (desk_at names.old starts.old literals.old stamps.old slots.old) p × (line_of k < 2 ^ 32) }
     ensures { TurnsBy homes narrow k (desk_at names.old starts.old literals.old stamps.old slots.old) p
         (desk_at names.new starts.new literals.new stamps.new slots.new) result }
@@ -142,12 +126,12 @@ fn at_token(
             );
             after_literal(t, p, l.line)
         }
-        Token::True(_) => Next::Drops(given_back(p)),
+        Token::True(_) => Ok(Next::Drops(given_back(p))),
         Token::Line(n) => at_line_end(starts, p, n),
         Token::End(_) => at_text_end(p),
-        Token::Cut(_) => refused(Reason::TextCut, 0),
-        Token::Bad(n) => refused(Reason::ByteNotAllowed, n),
-        Token::Long(n) => refused(Reason::NinthByte, n),
+        Token::Cut(_) => Err(fault_at(Reason::TextCut, 0)),
+        Token::Bad(n) => Err(fault_at(Reason::ByteNotAllowed, n)),
+        Token::Long(n) => Err(fault_at(Reason::NinthByte, n)),
     }
 }
 
@@ -159,7 +143,7 @@ pub fn draft(
     literals: &mut [u16],
     stamps: &mut [u16],
     slots: &mut [u16],
-) -> Ended
+) -> Result<Place, Fault>
     requires { Blank homes narrow text.now (desk_at names.old starts.old literals.old stamps.old slots.old) }
     ensures { Drawn homes narrow text.now (desk_at names.old starts.old literals.old stamps.old slots.old)
         (desk_at names.new starts.new literals.new stamps.new slots.new) result }
@@ -171,25 +155,19 @@ pub fn draft(
         from: 0,
         held: 0,
     };
+    // Not a for: what a token does says where the next one is read.
     loop {
         let s = c.next(text);
-        let k = s.token;
-        let after = s.next;
-        match at_token(names, starts, literals, stamps, slots, p, k) {
+        match at_token(names, starts, literals, stamps, slots, p, s.token)? {
             Next::Goes(q) => {
                 p = q;
-                c = after;
+                c = s.next;
             }
             Next::Drops(q) => {
                 p = q;
-                c = after.over(text);
+                c = s.next.over(text);
             }
-            Next::Whole(q) => {
-                return Ended::Whole(q);
-            }
-            Next::Refused(f) => {
-                return Ended::Refused(f);
-            }
+            Next::Whole(q) => return Ok(q),
         }
     }
 }

@@ -9,6 +9,9 @@ use native.Mathlib.Omega.{arith}
 use borrow.Author.Tests.{lt-leb, le-leb, leb-true, leb-false}
 use lib.ListN.{length, take, set, length-set}
 use lib.Dec.{leb}
+use Rattle.std.proofs.Common.{Result, Ok, Err}
+use Rattle.written.specs.declared.Reason.{Reason}
+use Rattle.written.specs.declared.Reason.TheVariants.{TooManyTerms, TooManyLiterals}
 use lib.Seq.{length-take-le, take-suc-set, drop-set-lt}
 use Rattle.written.specs.Lists.{has, place_of}
 use Rattle.written.specs.Limits.{Limits}
@@ -22,22 +25,22 @@ use Rattle.reading_literal.specs.Taking.{fate, new_terms, new_literals, put_if, 
 use Rattle.reading_literal.specs.declared.Stands.{Stands}
 use Rattle.reading_literal.specs.declared.Stands.TheVariants.{Not, Same, Opposite}
 use Rattle.reading_literal.specs.declared.Taken.{Taken}
-use Rattle.reading_literal.specs.declared.Taken.TheVariants.{Held, Grown, Skipped, Dropped, NoTerm, NoRoom}
+use Rattle.reading_literal.specs.declared.Taken.TheVariants.{Held, Grown, Skipped, Dropped}
 use Rattle.reading_literal.proofs.Stamps.{unheard-not, stamped-grows, stamped-more}
 
 -- ---- what is written, by how the literal stands to the line
 
-abbrev unless : Stands → Taken → Taken
+abbrev unless : Stands → Result Taken Reason → Result Taken Reason
 unless Not r = r
-unless Same r = Skipped
-unless Opposite r = Dropped
+unless Same r = Ok Skipped
+unless Opposite r = Ok Dropped
 
 -- a literal that is new to the line
-abbrev fresh : Limits → List ℕ → ℕ → ℕ → Taken
+abbrev fresh : Limits → List ℕ → ℕ → ℕ → Result Taken Reason
 fresh lim known held name =
-    cond (not (has name known) && leb lim.terms (length known)) NoTerm (cond (leb lim.literals held) NoRoom (cond (has name known) Held Grown))
+    cond (not (has name known) && leb lim.terms (length known)) (Err TooManyTerms) (cond (leb lim.literals held) (Err TooManyLiterals) (cond (has name known) (Ok Held) (Ok Grown)))
 
-by-standing : (a b : Bool) (r : Taken) → unless (cond a Same (cond b Opposite Not)) r ≡ cond a Skipped (cond b Dropped r)
+by-standing : (a b : Bool) (r : Result Taken Reason) → unless (cond a Same (cond b Opposite Not)) r ≡ cond a (Ok Skipped) (cond b (Ok Dropped) r)
 by-standing true b r = refl
 by-standing false true r = refl
 by-standing false false r = refl
@@ -58,30 +61,30 @@ term-known L names terms name k few room old is = omega (arith, is, length-take-
 
 module _ (lim : Limits) (literals stamps : List ℕ) (from held term : ℕ) (negated : Bool) where
   -- a literal that is new to the line
-  abbrev if_room : Taken
-  if_room = cond (leb lim.literals held) NoRoom Held
+  abbrev if_room : Result Taken Reason
+  if_room = cond (leb lim.literals held) (Err TooManyLiterals) (Ok Held)
 
   abbrev Places : Placed → Type 0
   Places q = q ≡ placed lim literals stamps from held term negated
 
-  by-fate : {w : Stands} {r : Taken} → r ≡ unless w if_room → w ≡ stands_in term negated (line_in literals from held) → Places (placed_by literals stamps held term negated r)
+  by-fate : {w : Stands} {r : Result Taken Reason} → r ≡ unless w if_room → w ≡ stands_in term negated (line_in literals from held) → Places (placed_by literals stamps held term negated r)
   unfolding placed fate_of stands_in
   by-fate told stands =
       ap (placed_by literals stamps held term negated)
       (told ∙ ap (λ (v : Stands). unless v if_room) stands ∙ by-standing (has (literal_of term negated) (line_in literals from held)) (has (literal_of term (not negated)) (line_in literals from held)) if_room)
 
-  pub place-skips : Same ≡ stands_in term negated (line_in literals from held) → Places (placing Skipped literals stamps)
+  pub place-skips : Same ≡ stands_in term negated (line_in literals from held) → Places (placing (Ok Skipped) literals stamps)
   place-skips e = by-fate refl e
 
-  pub place-drops : Opposite ≡ stands_in term negated (line_in literals from held) → Places (placing Dropped literals stamps)
+  pub place-drops : Opposite ≡ stands_in term negated (line_in literals from held) → Places (placing (Ok Dropped) literals stamps)
   place-drops e = by-fate refl e
 
-  pub place-full : Not ≡ stands_in term negated (line_in literals from held) → lim.literals ≤ held → Places (placing NoRoom literals stamps)
+  pub place-full : Not ≡ stands_in term negated (line_in literals from held) → lim.literals ≤ held → Places (placing (Err TooManyLiterals) literals stamps)
   place-full e h = by-fate (rw (le-leb lim.literals held h) refl) e
 
   pub place-holds : Not ≡ stands_in term negated (line_in literals from held) → held < lim.literals → {ls ms : List ℕ} → ls ≡ set literals held (literal_of term negated) → ms ≡ set stamps term held
-      → Places (placing Held ls ms)
-  place-holds e h f g = (λ i. placing Held (f i) (g i)) ∙ by-fate (rw (lt-leb lim.literals held h) refl) e
+      → Places (placing (Ok Held) ls ms)
+  place-holds e h f g = (λ i. placing (Ok Held) (f i) (g i)) ∙ by-fate (rw (lt-leb lim.literals held h) refl) e
 
 -- ---- what a literal leaves
 
@@ -93,14 +96,14 @@ module _ (X : Index) (lim : Limits) (names : List ℕ) (terms : ℕ) (literals :
   abbrev line : List ℕ
   line = line_in literals from held
 
-  abbrev Left : List ℕ → List ℕ → List ℕ → List ℕ → Taken → Type 0
+  abbrev Left : List ℕ → List ℕ → List ℕ → List ℕ → Result Taken Reason → Type 0
   Left = TookWith X lim names terms literals from held stamps slots name negated
 
   count : length known ≡ terms
   count = length-take-le terms names (omega (arith, o.few-terms, o.names-room))
 
   -- nothing is changed
-  unchanged : (r : Taken) → new_terms r ≡ 0 → new_literals r ≡ 0 → r ≡ fate lim known line held name negated → Left names literals stamps slots r
+  unchanged : (r : Result Taken Reason) → new_terms r ≡ 0 → new_literals r ≡ 0 → r ≡ fate lim known line held name negated → Left names literals stamps slots r
   unchanged r a b e =
       record {
         told = e;
@@ -133,17 +136,17 @@ module _ (X : Index) (lim : Limits) (names : List ℕ) (terms : ℕ) (literals :
     low : k < terms
     low = term-known lim.terms names terms name k o.few-terms o.names-room old is
 
-    pub skips : Same ≡ stands_in k negated line → Left names literals stamps slots Skipped
-    skips e = unchanged Skipped refl refl (fate-is lim known line held name negated is e)
+    pub skips : Same ≡ stands_in k negated line → Left names literals stamps slots (Ok Skipped)
+    skips e = unchanged (Ok Skipped) refl refl (fate-is lim known line held name negated is e)
 
-    pub drops : Opposite ≡ stands_in k negated line → Left names literals stamps slots Dropped
-    drops e = unchanged Dropped refl refl (fate-is lim known line held name negated is e)
+    pub drops : Opposite ≡ stands_in k negated line → Left names literals stamps slots (Ok Dropped)
+    drops e = unchanged (Ok Dropped) refl refl (fate-is lim known line held name negated is e)
 
     module _ (e : Not ≡ stands_in k negated line) where
-      pub no_room-known : lim.literals ≤ held → Left names literals stamps slots NoRoom
-      no_room-known h = unchanged NoRoom refl refl (sym (rw (old, le-leb lim.literals held h)) ∙ fate-is lim known line held name negated is e)
+      pub no_room-known : lim.literals ≤ held → Left names literals stamps slots (Err TooManyLiterals)
+      no_room-known h = unchanged (Err TooManyLiterals) refl refl (sym (rw (old, le-leb lim.literals held h)) ∙ fate-is lim known line held name negated is e)
 
-      pub holds : held < lim.literals → {ls ss : List ℕ} → ls ≡ set literals held (literal_of k negated) → ss ≡ set stamps k held → Left names ls ss slots Held
+      pub holds : held < lim.literals → {ls ss : List ℕ} → ls ≡ set literals held (literal_of k negated) → ss ≡ set stamps k held → Left names ls ss slots (Ok Held)
       holds h f g =
           record {
             told = sym (rw (old, lt-leb lim.literals held h)) ∙ fate-is lim known line held name negated is e;
@@ -164,7 +167,7 @@ module _ (X : Index) (lim : Limits) (names : List ℕ) (terms : ℕ) (literals :
           room = o.literals_room;
         }
 
-    abbrev LeftBy : Taken → Type 0
+    abbrev LeftBy : Result Taken Reason → Type 0
     LeftBy r = Left names (put_if (new_literals r) literals held (literal_of k negated)) (put_if (new_literals r) stamps k held) slots r
 
     by-line : LeftBy (fate_of lim line held k negated)
@@ -175,7 +178,7 @@ module _ (X : Index) (lim : Limits) (names : List ℕ) (terms : ℕ) (literals :
         by_test LeftBy (leb lim.literals held) (λ full. no_room-known (rw (once, one_way) refl) (leb-true lim.literals held full)) (λ more.
         holds (rw (once, one_way) refl) (leb-false lim.literals held more) refl refl)))
 
-    pub placed_took : {r : Taken} {ls ms : List ℕ} → placing r ls ms ≡ placed lim literals stamps from held k negated → Left names ls ms slots r
+    pub placed_took : {r : Result Taken Reason} {ls ms : List ℕ} → placing r ls ms ≡ placed lim literals stamps from held k negated → Left names ls ms slots r
     unfolding placed
     placed_took e = subst (λ (q : Placed). Left names q.literals q.stamps slots q.answer) (sym e) by-line
 
@@ -183,7 +186,7 @@ module _ (X : Index) (lim : Limits) (names : List ℕ) (terms : ℕ) (literals :
 
 module _ (H : ℕ) (lim : Limits) (names : List ℕ) (terms : ℕ) (literals : List ℕ) (from held : ℕ) (stamps slots : List ℕ)
     (o : OpenWith (by_slots H lim) lim names terms literals from held stamps slots) (name : ℕ) (negated : Bool) where
-  abbrev LeftNew : List ℕ → List ℕ → List ℕ → List ℕ → Taken → Type 0
+  abbrev LeftNew : List ℕ → List ℕ → List ℕ → List ℕ → Result Taken Reason → Type 0
   LeftNew = TookWith (by_slots H lim) lim names terms literals from held stamps slots name negated
 
   -- the names known so far and the open line, as they are called above
@@ -196,7 +199,7 @@ module _ (H : ℕ) (lim : Limits) (names : List ℕ) (terms : ℕ) (literals : L
   many : length names-known ≡ terms
   many = count (by_slots H lim) lim names terms literals from held stamps slots o name negated
 
-  stays : (r : Taken) → new_terms r ≡ 0 → new_literals r ≡ 0 → r ≡ fate lim names-known line_open held name negated → LeftNew names literals stamps slots r
+  stays : (r : Result Taken Reason) → new_terms r ≡ 0 → new_literals r ≡ 0 → r ≡ fate lim names-known line_open held name negated → LeftNew names literals stamps slots r
   stays = unchanged (by_slots H lim) lim names terms literals from held stamps slots o name negated
 
   module _ (s : ℕ) (new : has name names-known ≡ false) (v : Vacant H names-known slots name s) where
@@ -209,12 +212,12 @@ module _ (H : ℕ) (lim : Limits) (names : List ℕ) (terms : ℕ) (literals : L
     written : fresh lim names-known held name ≡ fate lim names-known line_open held name negated
     written = fate-is lim names-known line_open held name negated is-next unheard
 
-    pub no_term : lim.terms ≤ terms → LeftNew names literals stamps slots NoTerm
-    no_term h = stays NoTerm refl refl (sym (rw (new, many, le-leb lim.terms terms h)) ∙ written)
+    pub no_term : lim.terms ≤ terms → LeftNew names literals stamps slots (Err TooManyTerms)
+    no_term h = stays (Err TooManyTerms) refl refl (sym (rw (new, many, le-leb lim.terms terms h)) ∙ written)
 
     module _ (few : terms < lim.terms) where
-      pub no_room-new : lim.literals ≤ held → LeftNew names literals stamps slots NoRoom
-      no_room-new h = stays NoRoom refl refl (sym (rw (new, many, lt-leb lim.terms terms few, le-leb lim.literals held h)) ∙ written)
+      pub no_room-new : lim.literals ≤ held → LeftNew names literals stamps slots (Err TooManyLiterals)
+      no_room-new h = stays (Err TooManyLiterals) refl refl (sym (rw (new, many, lt-leb lim.terms terms few, le-leb lim.literals held h)) ∙ written)
 
       indexed-more : Indexed H lim.terms (take (terms + 1) (set names terms name)) (set slots s (terms + 1))
       indexed-more =
@@ -223,7 +226,7 @@ module _ (H : ℕ) (lim : Limits) (names : List ℕ) (terms : ℕ) (literals : L
           rw e (rw many at (slot-filled H lim.terms names-known slots o.indexed name s v (omega arith) new))
 
       pub grows : held < lim.literals → {ns ls ms ss : List ℕ} → ns ≡ set names terms name → ls ≡ set literals held (literal_of terms negated)
-          → ms ≡ set stamps terms held → ss ≡ set slots s (terms + 1) → LeftNew ns ls ms ss Grown
+          → ms ≡ set stamps terms held → ss ≡ set slots s (terms + 1) → LeftNew ns ls ms ss (Ok Grown)
       grows h d f g e =
           record {
             told = sym (rw (new, many, lt-leb lim.terms terms few, lt-leb lim.literals held h)) ∙ written;

@@ -1,39 +1,39 @@
 -- What a literal comes to, in the order of document 01; and what the tables hold between two literals. Assumes nothing.
-use Rattle.std.specs.Prelude.{ℕ, ◌+◌, ◌≤◌, ◌<◌, ◌≡◌, Bool, not, cond, ◌&&◌, List, length, take, drop, set, leb, ltb}
+use Rattle.std.specs.Prelude.{ℕ, ◌+◌, ◌≤◌, ◌<◌, ◌≡◌, Bool, not, cond, ◌&&◌, List, length, take, drop, set, leb, ltb, Result, Ok, Err}
+use Rattle.written.specs.declared.Reason.{Reason}
+use Rattle.written.specs.declared.Reason.TheVariants.{TooManyTerms, TooManyLiterals}
 use Rattle.written.specs.Lists.{has, place_of}
 use Rattle.written.specs.Limits.{Limits}
 use Rattle.written.specs.Clauses.{literal_of}
 use Rattle.machine.specs.Slots.{Indexed}
 use Rattle.reading_literal.specs.Line.{line_in, Stamped}
 use Rattle.reading_literal.specs.declared.Taken.{Taken}
-use Rattle.reading_literal.specs.declared.Taken.TheVariants.{Held, Grown, Skipped, Dropped, NoTerm, NoRoom}
+use Rattle.reading_literal.specs.declared.Taken.TheVariants.{Held, Grown, Skipped, Dropped}
 
 -- a literal of a name, where `known` are the names, `line` the literals of the line and `held` the number of all literals held:
 -- "then dropping or skipping, then a new term's room (reason 6), then room for the literal (7)"
-unfoldable pub fate : Limits → List ℕ → List ℕ → ℕ → ℕ → Bool → Taken
+unfoldable pub fate : Limits → List ℕ → List ℕ → ℕ → ℕ → Bool → Result Taken Reason
 fate lim known line held name negated =
-    cond (has (literal_of (place_of name known) negated) line) Skipped
-    (cond (has (literal_of (place_of name known) (not negated)) line) Dropped
-    (cond (not (has name known) && leb lim.terms (length known)) NoTerm
-    (cond (leb lim.literals held) NoRoom
-    (cond (has name known) Held Grown))))
+    cond (has (literal_of (place_of name known) negated) line) (Ok Skipped)
+    (cond (has (literal_of (place_of name known) (not negated)) line) (Ok Dropped)
+    (cond (not (has name known) && leb lim.terms (length known)) (Err TooManyTerms)
+    (cond (leb lim.literals held) (Err TooManyLiterals)
+    (cond (has name known) (Ok Held) (Ok Grown)))))
 
 -- how many terms and literals it adds
-abbrev pub new_terms : Taken → ℕ
-new_terms Held = 0
-new_terms Grown = 1
-new_terms Skipped = 0
-new_terms Dropped = 0
-new_terms NoTerm = 0
-new_terms NoRoom = 0
+abbrev pub new_terms : Result Taken Reason → ℕ
+new_terms (Ok Held) = 0
+new_terms (Ok Grown) = 1
+new_terms (Ok Skipped) = 0
+new_terms (Ok Dropped) = 0
+new_terms (Err e) = 0
 
-abbrev pub new_literals : Taken → ℕ
-new_literals Held = 1
-new_literals Grown = 1
-new_literals Skipped = 0
-new_literals Dropped = 0
-new_literals NoTerm = 0
-new_literals NoRoom = 0
+abbrev pub new_literals : Result Taken Reason → ℕ
+new_literals (Ok Held) = 1
+new_literals (Ok Grown) = 1
+new_literals (Ok Skipped) = 0
+new_literals (Ok Dropped) = 0
+new_literals (Err e) = 0
 
 -- a table with an entry put at a place, where there is one to put
 abbrev pub put_if : ℕ → List ℕ → ℕ → ℕ → List ℕ
@@ -41,22 +41,22 @@ put_if k xs i x = cond (ltb 0 k) (set xs i x) xs
 
 -- what a known term's literal answers, and leaves in the literals and the stamps
 pub record Placed : Type 0 where
-  pub answer : Taken
+  pub answer : Result Taken Reason
   pub literals : List ℕ
   pub stamps : List ℕ
 
-abbrev pub placing : Taken → List ℕ → List ℕ → Placed
+abbrev pub placing : Result Taken Reason → List ℕ → List ℕ → Placed
 placing r ls ms = record { answer = r; literals = ls; stamps = ms }
 
 -- a known term's literal, by the line and the number of all literals held: "dropping or skipping, then .. room for the literal (7)"
-unfoldable pub fate_of : Limits → List ℕ → ℕ → ℕ → Bool → Taken
+unfoldable pub fate_of : Limits → List ℕ → ℕ → ℕ → Bool → Result Taken Reason
 fate_of lim line held term negated =
-    cond (has (literal_of term negated) line) Skipped
-    (cond (has (literal_of term (not negated)) line) Dropped
-    (cond (leb lim.literals held) NoRoom Held))
+    cond (has (literal_of term negated) line) (Ok Skipped)
+    (cond (has (literal_of term (not negated)) line) (Ok Dropped)
+    (cond (leb lim.literals held) (Err TooManyLiterals) (Ok Held)))
 
 -- the tables by what becomes of it: held, it is the line's last, and its place is its term's stamp
-abbrev pub placed_by : List ℕ → List ℕ → ℕ → ℕ → Bool → Taken → Placed
+abbrev pub placed_by : List ℕ → List ℕ → ℕ → ℕ → Bool → Result Taken Reason → Placed
 placed_by literals stamps held term negated r =
     placing r (put_if (new_literals r) literals held (literal_of term negated)) (put_if (new_literals r) stamps term held)
 
@@ -96,7 +96,7 @@ pub record OpenWith (X : Index) (lim : Limits) (names : List ℕ) (terms : ℕ) 
 
 -- after a literal: what it came to, the names and the literals by plain lists, and that the tables serve again
 pub record TookWith (X : Index) (lim : Limits) (names : List ℕ) (terms : ℕ) (literals : List ℕ) (from held : ℕ) (stamps slots : List ℕ) (name : ℕ) (negated : Bool)
-    (names' literals' stamps' slots' : List ℕ) (r : Taken) : Type 0 where
+    (names' literals' stamps' slots' : List ℕ) (r : Result Taken Reason) : Type 0 where
   pub told : r ≡ fate lim (take terms names) (line_in literals from held) held name negated
   pub names-left : names' ≡ put_if (new_terms r) names terms name
   pub literals-left : literals' ≡ put_if (new_literals r) literals held (literal_of (place_of name (take terms names)) negated)
@@ -108,6 +108,6 @@ pub record TookWith (X : Index) (lim : Limits) (names : List ℕ) (terms : ℕ) 
 abbrev pub Open : ℕ → Limits → List ℕ → ℕ → List ℕ → ℕ → ℕ → List ℕ → List ℕ → Type 0
 Open H lim names terms literals from held stamps slots = OpenWith (by_slots H lim) lim names terms literals from held stamps slots
 
-abbrev pub Took : ℕ → Limits → List ℕ → ℕ → List ℕ → ℕ → ℕ → List ℕ → List ℕ → ℕ → Bool → List ℕ → List ℕ → List ℕ → List ℕ → Taken → Type 0
+abbrev pub Took : ℕ → Limits → List ℕ → ℕ → List ℕ → ℕ → ℕ → List ℕ → List ℕ → ℕ → Bool → List ℕ → List ℕ → List ℕ → List ℕ → Result Taken Reason → Type 0
 Took H lim names terms literals from held stamps slots name negated names' literals' stamps' slots' r =
     TookWith (by_slots H lim) lim names terms literals from held stamps slots name negated names' literals' stamps' slots' r

@@ -10,7 +10,7 @@ ghost use Rattle.names.specs.Finding.{homes};
 ghost use Rattle.reading_literal.specs.Line.{line_in, stands_in, Stamped};
 ghost use Rattle.reading_literal.specs.Taking.{placing, placed, CanPlace, Open, Took};
 
-use names::Found;
+use written::Reason;
 
 // Whether a line has a literal already, or its opposite.
 #[derive(Clone, Copy)]
@@ -20,15 +20,13 @@ pub enum Stands {
     Opposite,
 }
 
-// What becomes of a literal that is read: held, held with a new term, skipped, its line dropped, or one too many.
+// What becomes of a literal that is read, where it is not one too many: held, held with a new term, skipped, or its line dropped.
 #[derive(Clone, Copy)]
 pub enum Taken {
     Held,
     Grown,
     Skipped,
     Dropped,
-    NoTerm,
-    NoRoom,
 }
 
 fn literal(term: usize, negated: bool) -> usize
@@ -50,14 +48,14 @@ fn seen(
     requires { Stamped literals.now from held stamps.now (length stamps.now) × (term < length stamps.now) × (term < 32768) }
     ensures { result ≡ stands_in term negated (line_in literals.now from held) }
 {
-    let p = stamps[term] as usize;
+    let p = usize::from(stamps[term]);
     if p < from {
         return Stands::Not;
     }
     if held <= p {
         return Stands::Not;
     }
-    let l = literals[p] as usize;
+    let l = usize::from(literals[p]);
     if l / 2 != term {
         return Stands::Not;
     }
@@ -87,21 +85,21 @@ pub fn place(
     held: usize,
     term: usize,
     negated: bool,
-) -> Taken
+) -> Result<Taken, Reason>
     requires { CanPlace narrow literals.old stamps.old from held term }
     ensures { placing result literals.new stamps.new
         ≡ placed narrow literals.old stamps.old from held term negated }
 {
     let stands = seen(literals, stamps, from, held, term, negated);
     match stands {
-        Stands::Same => Taken::Skipped,
-        Stands::Opposite => Taken::Dropped,
+        Stands::Same => Ok(Taken::Skipped),
+        Stands::Opposite => Ok(Taken::Dropped),
         Stands::Not => {
             if held < 16384 {
                 mark(literals, stamps, held, term, negated);
-                Taken::Held
+                Ok(Taken::Held)
             } else {
-                Taken::NoRoom
+                Err(Reason::TooManyLiterals)
             }
         }
     }
@@ -118,24 +116,24 @@ pub fn take(
     held: usize,
     name: u64,
     negated: bool,
-) -> Taken
+) -> Result<Taken, Reason>
     requires { Open homes narrow names.old terms literals.old from held stamps.old slots.old }
     ensures { Took homes narrow names.old terms literals.old from held stamps.old
         slots.old name negated names.new literals.new stamps.new slots.new result }
 {
     let found = names::find(names, slots, terms, name);
     match found {
-        Found::At(k) => place(literals, stamps, from, held, k, negated),
-        Found::New(s) => {
+        Ok(k) => place(literals, stamps, from, held, k, negated),
+        Err(s) => {
             if 2048 <= terms {
-                return Taken::NoTerm;
+                return Err(Reason::TooManyTerms);
             }
             if 16384 <= held {
-                return Taken::NoRoom;
+                return Err(Reason::TooManyLiterals);
             }
             names::add(names, slots, terms, s, name);
             mark(literals, stamps, held, terms, negated);
-            Taken::Grown
+            Ok(Taken::Grown)
         }
     }
 }

@@ -1,13 +1,11 @@
 -- Document 02, [4]: a reading of a numbered clause file, number by number. Assumes nothing.
-use Rattle.std.specs.Prelude.{ℕ, zero, suc, Bool, true, false, cond, ◌||◌, List, [], length, eqb, ltb, leb}
+use Rattle.std.specs.Prelude.{ℕ, zero, suc, Bool, true, false, cond, ◌||◌, List, [], length, eqb, ltb, leb, Option, Some, None}
 use Rattle.scan.specs.declared.Cursor.{Cursor}
 use Rattle.scan.specs.Scan.{packed, start}
 use Rattle.written.specs.declared.Reason.TheVariants.{ByteNotAllowed, TooManyTerms, HeaderForm, ClauseCount, PastHeader}
 use Rattle.written.specs.declared.Form.{Form}
 use Rattle.written.specs.declared.Form.TheVariants.{Own, Numbered}
 use Rattle.written.specs.declared.Header.{Header}
-use Rattle.written.specs.declared.Headed.{Headed}
-use Rattle.written.specs.declared.Headed.TheVariants.{Says, Malformed}
 use Rattle.written.specs.declared.Signed.{Signed}
 use Rattle.written.specs.declared.Numeral.{Numeral}
 use Rattle.written.specs.declared.Numeral.TheVariants.{Number, Bad, End}
@@ -88,9 +86,9 @@ abbrev pub begun : Header → Sum
 begun h = sum (record { names = names_to h.variables; clauses = []; line = [] }) false 0
 
 -- "16 header malformed [..], 6 a header of over 2,048 variables": of the header's line n, and the numbers after it
-unfoldable pub after_header : Limits → List ℕ → ℕ → Headed → Reading
-after_header lim t n Malformed = refused (fault_at n HeaderForm)
-after_header lim t n (Says h) =
+unfoldable pub after_header : Limits → List ℕ → ℕ → Option Header → Reading
+after_header lim t n None = refused (fault_at n HeaderForm)
+after_header lim t n (Some h) =
     cond (ltb lim.terms h.variables) (refused (fault_at n TooManyTerms))
     (numbers_from (suc (length t)) lim t h (record { at = h.end; line = n }) (begun h))
 

@@ -1,11 +1,10 @@
 -- Document 02, [4]: what stands in the text of a numbered clause file, byte by byte. A text is the list of its bytes. Assumes nothing.
-use Rattle.std.specs.Prelude.{ℕ, zero, suc, ◌+◌, ◌-◌, Bool, not, cond, ◌&&◌, List, length, get_or, take, drop, eqb, leb, ltb}
+use Rattle.std.specs.Prelude.{ℕ, zero, suc, ◌+◌, ◌-◌, Bool, not, cond, ◌&&◌, List, length, get_or, take, drop, eqb, leb, ltb, Option, Some, None}
 use Rattle.scan.specs.declared.Cursor.{Cursor}
 use Rattle.scan.specs.declared.Kind.TheVariants.{Blank, Gap, Word}
 use Rattle.scan.specs.Scan.{is_of, past, rest_at}
 use Rattle.scan.specs.Text.{bytes}
-use Rattle.written.specs.declared.Headed.{Headed}
-use Rattle.written.specs.declared.Headed.TheVariants.{Says, Malformed}
+use Rattle.written.specs.declared.Header.{Header}
 use Rattle.written.specs.declared.Numeral.{Numeral}
 use Rattle.written.specs.declared.Numeral.TheVariants.{Number, Bad, End}
 use Rattle.written.specs.declared.Met.{Met}
@@ -38,19 +37,19 @@ past_comments zero t c = c
 past_comments (suc k) t c = cond (eqb (get_or t c.at 0) 99) (past_comments k t (record { at = suc (rest_at t c.at); line = suc c.line })) c
 
 -- "one line `p cnf V C` (variables, clauses, no minus; spaces or tabs between, nothing after)": V and C from the place where V begins
-unfoldable pub sizes_at : List ℕ → ℕ → Headed
+unfoldable pub sizes_at : List ℕ → ℕ → Option Header
 sizes_at t v =
     let c : ℕ = past is_blank t (word_end t v) in
     cond (is_number (word_at t v) && ltb (word_end t v) c && is_number (word_at t c) && eqb (get_or t (word_end t c) 0) 10)
-    (Says (record { variables = value_of_digits (word_at t v); clauses = value_of_digits (word_at t c); end = word_end t c }))
-    Malformed
+    (Some (record { variables = value_of_digits (word_at t v); clauses = value_of_digits (word_at t c); end = word_end t c }))
+    None
 
 -- the line that begins at a place, as a header: its p, and then its cnf at k and its V at v
-unfoldable pub header_at : List ℕ → ℕ → Headed
+unfoldable pub header_at : List ℕ → ℕ → Option Header
 header_at t at =
     let k : ℕ = past is_blank t (suc at) in
     let v : ℕ = past is_blank t (k + 3) in
-    cond (begins (bytes "p") (drop at t) && ltb (suc at) k && begins (bytes "cnf") (drop k t) && ltb (k + 3) v) (sizes_at t v) Malformed
+    cond (begins (bytes "p") (drop at t) && ltb (suc at) k && begins (bytes "cnf") (drop k t) && ltb (k + 3) v) (sizes_at t v) None
 
 -- ---- the numbers after it
 

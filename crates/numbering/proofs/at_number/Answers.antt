@@ -1,16 +1,16 @@
 -- `numbering::at_number` meets its contract: each way out by the law of its case. Assumes nothing.
 use mathlib.Core.Path.{ap, ◌∙◌}
 use native.Mathlib.Omega.{arith}
+use Rattle.std.proofs.Common.{Err}
+use Rattle.std.proofs.lemmas.Result.{err_from_is_err_and}
 use Rattle.written.specs.Limits.{narrow}
-use Rattle.reading_lines.specs.declared.Next.{Next}
-use Rattle.numbering.specs.Passes.{pass_of}
-use Rattle.numbering.proofs.Passes.{above_counts, zero-counts, dropped-counts, literal-counts}
+use Rattle.numbering.proofs.Passes.{turn-failed, turn-led, above_counts, zero-counts, dropped-counts, literal-counts}
 use Rattle.numbering.proofs.at_number.Goals as goal
 
 pub returns-then-h-number : goal.returns-then-h-number
 returns-then-h-number c =
     let pre = c.requires in
-    above_counts narrow _ pre.0.small (omega arith) _ _ _ c.if-h-number.true (c.turned.ensures ∙ ap (λ (n : Next). pass_of n 0) c.refused.ensures)
+    above_counts narrow _ pre.0.small (omega arith) _ _ _ c.if-h-number.true c.fault_at.ensures
 
 pub returns-then-number-eq0 : goal.returns-then-number-eq0
 returns-then-number-eq0 c =
@@ -22,8 +22,15 @@ returns-then-g c =
     let pre = c.requires in
     dropped-counts narrow _ pre.0.small (omega arith) _ _ _ c.if-h-number.false c.if-number-eq0.false c.if-g.true
 
+pub returns-in_err-next : goal.returns-in_err-next
+returns-in_err-next c =
+    let pre = c.requires in
+    let p = err_from_is_err_and c.from_residual.result c.from_residual.ensures.1 in
+    literal-counts narrow _ pre.0.small (omega arith) _ _ _ c.if-h-number.false c.if-number-eq0.false
+    c.if-g.false c.place-taken.ensures c.after_literal.ensures (turn-failed (p.1 ∙ ap Err p.2) c.in_err-next.was _)
+
 pub returns : goal.returns
 returns c =
     let pre = c.requires in
-    literal-counts narrow _ pre.0.small (omega arith) _ _ _ c.if-h-number.false c.if-number-eq0.false c.if-g.false c.place-taken.ensures
-    c.after_literal.ensures c.turned-2.ensures
+    literal-counts narrow _ pre.0.small (omega arith) _ _ _ c.if-h-number.false c.if-number-eq0.false
+    c.if-g.false c.place-taken.ensures c.after_literal.ensures (turn-led _ c.turned.ensures c.in_ok-next.was)

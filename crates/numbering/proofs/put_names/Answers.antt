@@ -6,7 +6,7 @@ use Rattle.numbering.proofs.Names.{none-put, one-put}
 use Rattle.numbering.proofs.put_names.Goals as goal
 
 pub loop-k-init : goal.loop-k-init
-loop-k-init c = (none-put _, refl, omega arith)
+loop-k-init c = (none-put _, refl)
 
 pub loop-k-preserved : goal.loop-k-preserved
 loop-k-preserved c =
@@ -14,5 +14,4 @@ loop-k-preserved c =
     let low = c.loop-k-test.true in (
       one-put _ _ inv.0 (omega (arith, low, inv.1, c.requires.0)) c.name_of.ensures,
       length-set c.loop-k.names c.loop-k.k c.name_of.result ∙ inv.1,
-      omega (arith, low),
     )

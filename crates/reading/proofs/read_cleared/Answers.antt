@@ -26,12 +26,12 @@ draft-requires c =
     let passed : c.verdict.result ≡ Ok tt = passed-if _ c.map_err.ensures.variant c.in_ok-map_err.was in
     can_lay narrow text (read_by form narrow text) _ c.requires c.verdict.ensures passed
 
-pub returns-in-Refused : goal.returns-in-Refused
-returns-in-Refused c =
+pub returns-in-Err : goal.returns-in-Err
+returns-in-Err c =
     let text = c.args.text.now in
     let form = c.args.form in
     let passed : c.verdict.result ≡ Ok tt = passed-if _ c.map_err.ensures.variant c.in_ok-map_err.was in
-    was-refused narrow text (read_by form narrow text) _ c.requires c.verdict.ensures passed _ c.draft.ensures c.in-Refused.is
+    was-refused narrow text (read_by form narrow text) _ c.requires c.verdict.ensures passed _ c.draft.ensures c.in-Err.is
     c.clear_draft.ensures
 
 pub finish-n-requires : goal.finish-n-requires
@@ -40,12 +40,12 @@ finish-n-requires c =
     let form = c.args.form in
     let passed : c.verdict.result ≡ Ok tt = passed-if _ c.map_err.ensures.variant c.in_ok-map_err.was in
     finish-can narrow text (read_by form narrow text) (form-sound narrow (omega arith) form text) _ c.requires c.verdict.ensures passed _
-    c.draft.ensures c.in-Whole.is 65536 (omega arith) (omega arith) (omega arith) (omega arith)
+    c.draft.ensures c.in-Ok.is 65536 (omega arith) (omega arith) (omega arith) (omega arith)
 
-pub returns-in-Whole : goal.returns-in-Whole
-returns-in-Whole c =
+pub returns-in-Ok : goal.returns-in-Ok
+returns-in-Ok c =
     let text = c.args.text.now in
     let form = c.args.form in
     let passed : c.verdict.result ≡ Ok tt = passed-if _ c.map_err.ensures.variant c.in_ok-map_err.was in
     was-whole narrow text (read_by form narrow text) (form-sound narrow (omega arith) form text) _ c.requires c.verdict.ensures passed _
-    c.draft.ensures c.in-Whole.is 65536 (omega arith) (omega arith) (omega arith) (omega arith) c.finish-n.ensures
+    c.draft.ensures c.in-Ok.is 65536 (omega arith) (omega arith) (omega arith) (omega arith) c.finish-n.ensures

@@ -12,11 +12,11 @@ returns-in-Own c =
     rw c.in-Own.is
     (drawn_laying homes narrow (omega arith) _ _ c.requires _
     (record {
-      names-long = c.names-1.given;
-      starts-long = c.starts-1.given;
-      literals-long = c.literals-1.given;
-      stamps-long = c.stamps-1.given;
-      slots-long = c.slots-1.given;
+      names-long = c.draft.auto.names;
+      starts-long = c.draft.auto.starts;
+      literals-long = c.draft.auto.literals;
+      stamps-long = c.draft.auto.stamps;
+      slots-long = c.draft.auto.slots;
     })
     c.draft.result c.draft.ensures)
 
@@ -25,10 +25,10 @@ returns-in-Numbered c =
     rw c.in-Numbered.is
     (numbers_laying narrow _ _ c.requires _ _
     (record {
-      names-long = c.names-in-Numbered-1.given;
-      starts-long = c.starts-in-Numbered-1.given;
-      literals-long = c.literals-in-Numbered-1.given;
-      stamps-long = c.stamps-in-Numbered-1.given;
+      names-long = c.draft-in-Numbered.auto.names;
+      starts-long = c.draft-in-Numbered.auto.starts;
+      literals-long = c.draft-in-Numbered.auto.literals;
+      stamps-long = c.draft-in-Numbered.auto.stamps;
       slots-long = refl;
     })
     c.draft-in-Numbered.result c.draft-in-Numbered.ensures)

@@ -21,12 +21,12 @@ returns-in-End c = rw c.in-End.is (end_by (by_slots homes narrow) narrow _ _ _ c
 
 pub returns-in-Cut : goal.returns-in-Cut
 unfolding at_token
-returns-in-Cut c = rw (c.in-Cut.is, c.refused.ensures) (fault-by (by_slots homes narrow) narrow _ _ _ _ (λ d. refl))
+returns-in-Cut c = rw (c.in-Cut.is, c.fault_at.ensures) (fault-by (by_slots homes narrow) narrow _ _ _ _ (λ d. refl))
 
 pub returns-in-Bad : goal.returns-in-Bad
 unfolding at_token
-returns-in-Bad c = rw (c.in-Bad.is, c.refused-in-Bad.ensures) (fault-by (by_slots homes narrow) narrow _ _ _ _ (λ d. refl))
+returns-in-Bad c = rw (c.in-Bad.is, c.fault_at-in-Bad.ensures) (fault-by (by_slots homes narrow) narrow _ _ _ _ (λ d. refl))
 
 pub returns-in-Long : goal.returns-in-Long
 unfolding at_token
-returns-in-Long c = rw (c.in-Long.is, c.refused-in-Long.ensures) (fault-by (by_slots homes narrow) narrow _ _ _ _ (λ d. refl))
+returns-in-Long c = rw (c.in-Long.is, c.fault_at-in-Long.ensures) (fault-by (by_slots homes narrow) narrow _ _ _ _ (λ d. refl))
