@@ -18,75 +18,28 @@ use written::Counts;
 fn counts_fit(n: Counts) -> bool
     ensures { result ≡ counts_fit narrow n }
 {
-    if n.terms > 2048 {
-        return false;
-    }
-    if n.clauses > 8192 {
-        return false;
-    }
-    if n.literals > 16384 {
-        return false;
-    }
-    if n.uncovered > 8192 {
-        return false;
-    }
-    n.clauses > 0
+    (n.terms <= 2048)
+        & (n.clauses <= 8192)
+        & (n.literals <= 16384)
+        & (n.uncovered <= 8192)
+        & (n.clauses > 0)
 }
 
 // ---- all points together
 
 // Counts that fit agree with full tables.
 fn points_agree(n: Counts, tables: Tables) -> bool
-    requires { (are_full narrow (seen tables) ≡ true)
-        × (counts_fit narrow n ≡ true) }
+    requires { (are_full narrow (seen tables) ≡ true) × (counts_fit narrow n ≡ true) }
     ensures { result ≡ agree narrow n (seen tables.entry) }
 {
-    if agreeing_file::clauses_hold(
-        n,
-        tables.names,
-        tables.starts,
-        tables.literals,
-        tables.occurrence_starts,
-        tables.occurrences,
-    ) {
-        if agreeing_counts::counts_agree(
-            n,
-            tables.values,
-            tables.starts,
-            tables.literals,
-            tables.occurrence_starts,
-            tables.occurrences,
-            tables.trues,
-            tables.breaks,
-            tables.uncovered,
-            tables.places,
-        ) {
-            return agreeing_rest::rests_agree(
-                n,
-                tables.names,
-                tables.values,
-                tables.starts,
-                tables.literals,
-                tables.occurrence_starts,
-                tables.occurrences,
-                tables.trues,
-                tables.breaks,
-                tables.uncovered,
-                tables.places,
-            );
-        }
-    }
-    false
+    agreeing_file::clauses_hold(n, tables)
+        && agreeing_counts::counts_agree(n, tables)
+        && agreeing_rest::rests_agree(n, tables)
 }
 
 // The tables are full and agree.
 pub fn agrees(n: Counts, tables: Tables) -> bool
     ensures { result ≡ (are_full narrow (seen tables.entry) && agree narrow n (seen tables.entry)) }
 {
-    if tables.are_full() {
-        if counts_fit(n) {
-            return points_agree(n, tables);
-        }
-    }
-    false
+    tables.are_full() && counts_fit(n) && points_agree(n, tables)
 }

@@ -9,7 +9,9 @@ ghost use Rattle.written.specs.Agreement.{part_of};
 ghost use Rattle.machine.specs.Moving.{CanPart, down_of};
 ghost use Rattle.machine.specs.Judging.{clauses_in, values_in, trues_right, counts_right};
 ghost use Rattle.machine.specs.Tested.{count_of, ones_in, break_at, break_tested, place_tested, InCounts, CanTrues, CanBreaks, CanList, CanCounts};
+ghost use Rattle.tables.specs.Seen.{seen};
 
+use tables::Tables;
 use written::Counts;
 
 // The true counts are those of the values.
@@ -123,25 +125,21 @@ fn list_agrees(n: Counts, trues: &[u16], uncovered: &[u16], places: &[u16]) -> b
 }
 
 // The counts are those of the values, and the list holds each uncovered clause once, with its place.
-pub fn counts_agree(
-    n: Counts,
-    values: &[u32],
-    starts: &[u16],
-    literals: &[u16],
-    occurrence_starts: &[u16],
-    occurrences: &[u16],
-    trues: &[u16],
-    breaks: &[u16],
-    uncovered: &[u16],
-    places: &[u16],
-) -> bool
-    requires { CanCounts n values.now starts.now literals.now occurrence_starts.now occurrences.now trues.now breaks.now
-        uncovered.now places.now }
-    ensures { result ≡ counts_right n values.now starts.now literals.now trues.now breaks.now
-        uncovered.now places.now }
+pub fn counts_agree(n: Counts, tables: Tables) -> bool
+    requires { let t = seen tables in CanCounts n t.values t.starts t.literals t.occurrence_starts t.occurrences t.trues t.breaks t.uncovered t.places }
+    ensures { let t = seen tables.entry in result ≡ counts_right n t.values t.starts t.literals t.trues t.breaks t.uncovered t.places }
 {
-    trues_agree(n, values, starts, literals, trues)
-        && breaks_agree(n, values, occurrence_starts, occurrences, trues, breaks)
+    let values = tables.values;
+    let trues = tables.trues;
+    trues_agree(n, values, tables.starts, tables.literals, trues)
+        && breaks_agree(
+            n,
+            values,
+            tables.occurrence_starts,
+            tables.occurrences,
+            trues,
+            tables.breaks,
+        )
         && number_agrees(n, trues)
-        && list_agrees(n, trues, uncovered, places)
+        && list_agrees(n, trues, tables.uncovered, tables.places)
 }

@@ -15,7 +15,9 @@ ghost use Rattle.agreeing_file.specs.Matching.{cuts_right, stands_at, is_next, p
 ghost use Rattle.agreeing_file.specs.Matching.{clauses_next, pass_clauses, runs_passed, CanPass, CanPassAll, CanMatch};
 ghost use Rattle.machine.specs.Slots.{Indexed};
 ghost use Rattle.names.specs.Finding.{homes};
+ghost use Rattle.tables.specs.Seen.{seen};
 
+use tables::Tables;
 use written::Counts;
 
 // ---- names, starts, literals
@@ -292,21 +294,21 @@ fn occurrences_agree(
 // ---- the points together
 
 // Names, starts, literals and occurrences hold a file.
-pub fn clauses_hold(
-    n: Counts,
-    names: &[u64],
-    starts: &[u16],
-    literals: &[u16],
-    occurrence_starts: &[u16],
-    occurrences: &[u16],
-) -> bool
-    requires { (counts_fit narrow n ≡ true) × ((full_sizes narrow).names ≤ length names.now) × ((full_sizes narrow).starts ≤ length starts.now)
-        × ((full_sizes narrow).literals ≤ length literals.now) × ((full_sizes narrow).occurrence_starts ≤ length occurrence_starts.now)
-        × ((full_sizes narrow).occurrences ≤ length occurrences.now) }
-    ensures { result ≡ (file_right n names.now starts.now literals.now
-        && turned_right n.terms n.literals (clauses_in n.clauses starts.now literals.now)
-        occurrence_starts.now occurrences.now) }
+pub fn clauses_hold(n: Counts, tables: Tables) -> bool
+    requires { let t = seen tables in (counts_fit narrow n ≡ true) × ((full_sizes narrow).names ≤ length t.names) × ((full_sizes narrow).starts ≤ length t.starts)
+        × ((full_sizes narrow).literals ≤ length t.literals) × ((full_sizes narrow).occurrence_starts ≤ length t.occurrence_starts)
+        × ((full_sizes narrow).occurrences ≤ length t.occurrences) }
+    ensures { let t = seen tables.entry in result ≡ (file_right n t.names t.starts t.literals
+        && turned_right n.terms n.literals (clauses_in n.clauses t.starts t.literals) t.occurrence_starts t.occurrences) }
 {
-    file_agrees(n, names, starts, literals)
-        && occurrences_agree(n, starts, literals, occurrence_starts, occurrences)
+    let starts = tables.starts;
+    let literals = tables.literals;
+    file_agrees(n, tables.names, starts, literals)
+        && occurrences_agree(
+            n,
+            starts,
+            literals,
+            tables.occurrence_starts,
+            tables.occurrences,
+        )
 }

@@ -8,10 +8,11 @@ ghost use Rattle.words.specs.Words.{word_count};
 ghost use Rattle.written.specs.Lists.{all};
 ghost use Rattle.written.specs.Limits.{narrow};
 ghost use Rattle.written.specs.Tables.{are_full};
-ghost use Rattle.written.specs.Lending.{lent_at};
+ghost use Rattle.tables.specs.Seen.{seen};
 ghost use Rattle.written.specs.Agreement.{counts_fit};
 ghost use Rattle.machine.specs.Judging.{rest_right, spare_right, clause_rests, count_rests};
 
+use tables::Tables;
 use written::Counts;
 
 // Every entry is 0. With no way out of the loop, several entries are taken at a time.
@@ -113,37 +114,27 @@ fn count_rests(n: Counts, trues: &[u16], breaks: &[u16], uncovered: &[u16], plac
 }
 
 // The rest is 0, spare value bits too.
-pub fn rests_agree(
-    n: Counts,
-    names: &[u64],
-    values: &[u32],
-    starts: &[u16],
-    literals: &[u16],
-    occurrence_starts: &[u16],
-    occurrences: &[u16],
-    trues: &[u16],
-    breaks: &[u16],
-    uncovered: &[u16],
-    places: &[u16],
-) -> bool
-    requires { (are_full narrow (lent_at names.now values.now starts.now literals.now occurrence_starts.now occurrences.now trues.now breaks.now
-        uncovered.now places.now) ≡ true)
-        × (counts_fit narrow n ≡ true) }
-    ensures { result ≡ (clause_rests narrow n names.now values.now starts.now literals.now
-        occurrence_starts.now occurrences.now
-        && count_rests narrow n trues.now breaks.now uncovered.now places.now
-        && spare_right n.terms (take (word_count n.terms) values.now)) }
+pub fn rests_agree(n: Counts, tables: Tables) -> bool
+    requires { (are_full narrow (seen tables) ≡ true) × (counts_fit narrow n ≡ true) }
+    ensures { let t = seen tables.entry in result ≡ (clause_rests narrow n t.names t.values t.starts t.literals t.occurrence_starts t.occurrences
+        && count_rests narrow n t.trues t.breaks t.uncovered t.places
+        && spare_right n.terms (take (word_count n.terms) t.values)) }
 {
     let terms = n.terms as usize;
     let words = (terms + 31) / 32;
     clause_rests(
         n,
-        names,
-        values,
-        starts,
-        literals,
-        occurrence_starts,
-        occurrences,
-    ) && count_rests(n, trues, breaks, uncovered, places)
-        && spare_zero(&values[..words], terms)
+        tables.names,
+        tables.values,
+        tables.starts,
+        tables.literals,
+        tables.occurrence_starts,
+        tables.occurrences,
+    ) && count_rests(
+        n,
+        tables.trues,
+        tables.breaks,
+        tables.uncovered,
+        tables.places,
+    ) && spare_zero(&tables.values[..words], terms)
 }
