@@ -14,7 +14,8 @@ use Rattle.written.specs.Reading.{from_left, read_text}
 use Rattle.written.specs.Tables.{Tables, lent, are_full}
 use Rattle.written.specs.Agreement.{file_in}
 use Rattle.written.specs.Walk.{walk_over}
-use Rattle.written.specs.Outcomes.{Ten, ten, ten_of, read_leaves}
+use Rattle.written.specs.Outcomes.{Ten, ten, ten_of, read_leaves, read_into, reading_of}
+use Rattle.written.specs.Numbered.{read_as}
 use Rattle.written.specs.Program.{Ran, ran, walked, after_reading}
 use Rattle.laws.proofs.Readings.{reading-sound}
 use Rattle.reading_lines.specs.Drafting.{Desk, Blank}
@@ -49,3 +50,12 @@ pub accepted-ends : (lim : Limits) (o : Order) (text : List ℕ) (t : Tables) (m
     → ten a u ≡ ten_of (read_leaves lim t [] (read_text lim text)) → (n : Counts) → a ≡ Ok n
     → {z : Ran} → z ≡ ran lim u ms b (walked (walk_over o [] (file_in n u))) → z ≡ ran lim t ms b (after_reading o (read_text lim text))
 accepted-ends lim o text t ms b can read n told e = readings.accepted-ends Own lim o (read_text lim text) t ms b can read (reading-sound lim text) n told e
+
+-- what a reading of our own form leaves is the reading of clause text
+pub own-reading : (lim : Limits) (text : List ℕ) (t : Tables) (ms : List ℕ) → read_into lim (read_as Own lim text) t ms ≡ reading_of lim text t ms
+unfolding reading_of read_text
+own-reading lim text t ms = refl
+
+pub own-text : (lim : Limits) (text : List ℕ) → read_as Own lim text ≡ read_text lim text
+unfolding read_text
+own-text lim text = refl
