@@ -122,11 +122,8 @@ pub fn finish(
         terms, clauses, values, starts, literals, trues, breaks, uncovered, places,
     );
     recounts::close_all(clauses, trues, places);
-    let left = number as u32;
     Counts {
-        terms: n.terms,
-        clauses: n.clauses,
-        literals: n.literals,
-        uncovered: left,
+        uncovered: number as u32,
+        ..n
     }
 }
