@@ -118,9 +118,8 @@ pub fn finish(
         terms, clauses, values, starts, literals, trues, breaks, uncovered, places,
     );
     recounts::close_all(clauses, trues, places);
-    let left = number as u32;
     Counts {
-        uncovered: left,
+        uncovered: number as u32,
         ..n
     }
 }

@@ -90,15 +90,12 @@ pub fn report(
     match answer {
         Ok(Walked::Found(tour)) => found(out, tour, names, values),
         Ok(Walked::GaveUp(tour)) => gave_up(out, tour),
-        Err(e) => {
-            let reason = e.reason;
-            refusal(
-                out,
-                Fault {
-                    reason: reason,
-                    line: 0,
-                },
-            )
-        }
+        Err(e) => refusal(
+            out,
+            Fault {
+                reason: e.reason,
+                line: 0,
+            },
+        ),
     }
 }

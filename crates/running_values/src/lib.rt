@@ -114,15 +114,12 @@ pub fn report(out: &mut [u8], answer: Result<Walked, Refusal>, values: &[u32]) -
     match answer {
         Ok(Walked::Found(tour)) => found(out, tour, values),
         Ok(Walked::GaveUp(tour)) => gave_up(out, tour),
-        Err(e) => {
-            let reason = e.reason;
-            refusal(
-                out,
-                Fault {
-                    reason: reason,
-                    line: 0,
-                },
-            )
-        }
+        Err(e) => refusal(
+            out,
+            Fault {
+                reason: e.reason,
+                line: 0,
+            },
+        ),
     }
 }

@@ -13,8 +13,8 @@ pub close_all-requires : goal.close_all-requires
 close_all-requires c =
     can_close _ _ _ _ _ c.requires c.clear_rest.ensures c.clear.ensures c.clear-2.ensures c.turn_round.ensures c.count_afresh-number.ensures
 
-pub overflow_cast-left : goal.overflow_cast-left
-overflow_cast-left c =
+pub overflow_cast-result : goal.overflow_cast-result
+overflow_cast-result c =
     omega (arith, number-low _ _ _ _ _ c.requires c.clear_rest.ensures c.clear.ensures c.clear-2.ensures c.turn_round.ensures c.count_afresh-number.ensures)
 
 pub returns : goal.returns
