@@ -26,12 +26,6 @@ use Rattle.numerals.specs.Numbers.{Within, Run, Stops, is_whole}
 digit-word : (b : ℕ) → 48 ≤ b → b ≤ 57 → is_word b ≡ true
 digit-word b l h = rw (ne_eqb b 32 (λ e. omega arith), ne_eqb b 9 (λ e. omega arith), ne_eqb b 10 (λ e. omega arith)) refl
 
-pub below-digits : (b : ℕ) → b < 48 → is_digit b ≡ false
-below-digits b h = rw (lt-leb 48 b h) refl
-
-pub above_digits : (b : ℕ) → 57 < b → is_digit b ≡ false
-above_digits b h = rw (le-leb 48 b (omega arith), lt-leb b 57 h) refl
-
 -- a byte that is not 10 is not the last of a text that ends with its last line
 pub not_last : (t : List ℕ) (i : ℕ) → open_end t ≡ false → i < length t → (get_or t i 0 ≡ 10 → ⊥) → i + 1 < length t
 not_last t i closed h other =

@@ -18,8 +18,9 @@ pub fn past_comments(text: &[u8]) -> Cursor
 {
     let mut at: usize = 0;
     let mut line: usize = 1;
+    // a while: each turn goes on to the next line's first byte
     while at < text.len() {
-        if text[at] != 99 {
+        if text[at] != b'c' {
             return Cursor { at, line };
         }
         at = scan::line_end(text, at) + 1;
@@ -90,10 +91,7 @@ fn line_past(line: usize, b: u8) -> usize
     requires { line + 1 < 2 ^ 64 }
     ensures { result ≡ line + cond (eqb 10 b) 1 0 }
 {
-    if b == 10 {
-        return line + 1;
-    }
-    line
+    if b == b'\n' { line + 1 } else { line }
 }
 
 // Past the gaps at a cursor that stands on one, the lines that end there counted.
@@ -103,16 +101,17 @@ fn past_gaps(text: &[u8], c: Cursor) -> Cursor
 {
     let first = c.at;
     let mut line = line_past(c.line, text[first]);
-    let mut at = first + 1;
-    while at < text.len() {
+    for at in first + 1..text.len() {
         let b = text[at];
         if !scan::is_gap(b) {
             return Cursor { at, line };
         }
         line = line_past(line, b);
-        at += 1;
     }
-    Cursor { at, line }
+    Cursor {
+        at: text.len(),
+        line,
+    }
 }
 
 // Where digits end, and the number that they are.
@@ -128,41 +127,29 @@ fn digits_at(text: &[u8], from: usize, stop: usize) -> Digits
     ensures { Stops text.now from stop result.end result.number }
 {
     let mut number: u64 = 0;
-    let mut i = from;
-    while i < stop {
+    for i in from..stop {
         let b = text[i];
-        if b < 48 {
+        if !b.is_ascii_digit() {
             return Digits { end: i, number };
         }
-        if 57 < b {
-            return Digits { end: i, number };
-        }
-        number = 10 * number + (b - 48) as u64;
-        i += 1;
+        number = 10 * number + u64::from(b - b'0');
     }
-    Digits { end: i, number }
+    Digits { end: stop, number }
 }
 
 // Whether digits are all of a word and a number. Where there is none the number is 0.
+#[tactic(auto, unfolding(crate::specs::Numbers::is_whole))]
 fn is_whole(text: &[u8], from: usize, d: Digits, negated: bool) -> bool
     requires { (from ≤ d.end) × (d.end < length text.now) }
     ensures { result ≡ is_whole text.now from d negated }
 {
-    let end = d.end;
-    let n = end - from;
-    if 10 < n {
-        return false;
-    }
-    if !scan::is_gap(text[end]) {
-        return false;
-    }
-    if d.number == 0 {
-        if negated {
-            return false;
-        }
-        return n == 1;
-    }
-    text[from] != 48
+    let n = d.end - from;
+    let form = if d.number == 0 {
+        !negated && n == 1
+    } else {
+        text[from] != b'0'
+    };
+    form && n <= 10 && scan::is_gap(text[d.end])
 }
 
 // Where a word's digits begin.
@@ -170,10 +157,7 @@ fn past_minus(b: u8, at: usize) -> usize
     requires { at + 1 < 2 ^ 64 }
     ensures { result ≡ cond (eqb b 45) (at + 1) at }
 {
-    if b == 45 {
-        return at + 1;
-    }
-    at
+    if b == b'-' { at + 1 } else { at }
 }
 
 // What stands past the gaps at a cursor that stands on one, and the cursor past that.
@@ -191,7 +175,7 @@ pub fn number_at(text: &[u8], c: Cursor) -> Met
         };
     }
     let b = text[at];
-    let negated = b == 45;
+    let negated = b == b'-';
     let from = past_minus(b, at);
     let d = digits_at(text, from, from + 11); // one more than a number may have
     if !is_whole(text, from, d, negated) {

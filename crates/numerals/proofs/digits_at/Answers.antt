@@ -8,5 +8,5 @@ loop-i-init c = (none-run _ _ c.requires.0, c.requires.1)
 
 pub loop-i-preserved : goal.loop-i-preserved
 loop-i-preserved c =
-    let pre = c.requires in
-    (one-run _ _ pre.0 _ _ c.loop-i.invariant.0 c.if-b-lt48.false c.if-b-gt57.false, omega (arith, c.loop-i-test.true))
+    let digit = c.if-not-is_ascii_digit.ensures.cases in
+    (rw c.from.ensures (one-run _ _ c.requires.0 _ _ c.loop-i.invariant.0 digit.0 digit.1), omega (arith, c.loop-i-test.true))

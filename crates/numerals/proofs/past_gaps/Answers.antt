@@ -1,7 +1,9 @@
 -- `numerals::past_gaps` meets its contract: what is left of the gaps leads where all do. Assumes nothing.
 -- a line is counted for each byte at most
-use mathlib.Core.Path.{◌∙◌}
+use mathlib.Core.Path.{◌≡◌, ap, ◌∙◌}
 use native.Mathlib.Omega.{arith}
+use lib.ListN.{length}
+use Rattle.scan.specs.Scan.{cursor_at}
 use Rattle.numerals.proofs.Gaps.{gap-on, gap-stop, gap-end}
 use mathlib.Core.Path.{sym}
 use Rattle.numerals.proofs.past_gaps.Goals as goal
@@ -22,4 +24,6 @@ loop-at-preserved c =
 pub returns : goal.returns
 returns c =
     let pre = c.requires in
-    gap-end _ _ _ c.loop-at-test.false ∙ c.loop-at.invariant.0 ∙ (gap-on _ _ _ pre.place.inside pre.gap c.line_past-line.ensures).0
+    let end : length c.args.text.now ≡ c.loop-at.at = omega (arith, pre.place.inside) in
+    ap (λ k. cursor_at k c.loop-at.line) end ∙ gap-end _ _ _ c.loop-at-test.false ∙ c.loop-at.invariant.0
+    ∙ (gap-on _ _ _ pre.place.inside pre.gap c.line_past-line.ensures).0

@@ -8,7 +8,4 @@ use Rattle.written.specs.Numerals.{past_gaps}
 use Rattle.numerals.proofs.past_gaps.Given as goal
 
 abbrev pub invariant-loop-at : goal.invariant-loop-at
-invariant-loop-at l = (past_gaps l.text (cursor_at l.at l.line) ≡ past_gaps l.text (cursor_at l.initial.at l.initial.line)) × (l.line + (length l.text - l.at) ≤ l.initial.line + (length l.text - l.initial.at))
-
-abbrev pub decreases-loop-at : goal.decreases-loop-at
-decreases-loop-at l = length l.text - l.at
+invariant-loop-at l = (past_gaps l.text (cursor_at l.at l.line) ≡ past_gaps l.text (cursor_at (l.first + 1) l.initial.line)) × (l.line + (length l.text - l.at) ≤ l.initial.line + (length l.text - (l.first + 1)))
