@@ -3,7 +3,7 @@ use Prim.Native.Nat.{ℕ}
 use mathlib.Core.Path.{◌≡◌, sym, ◌∙◌}
 use mathlib.Core.List.{List}
 use seplogic.Ra.Ura.{Ura}
-use base.Logic.{ent, via}
+use base.Logic.{SProp, ent, via}
 use contract.Monad.{fact, fact_use, fact_i, conj, conj_l, conj_r}
 use contract.Lifetimes.{Lfts}
 use denote.Triple.Entry.{Args}
@@ -53,3 +53,7 @@ module _ {M : Type 1} (𝓤 : Ura M) where
   all_three {R} {A} {B} {C} f =
       fact_use 𝓤 R (conj_l 𝓤 (fact 𝓤 R) (conj 𝓤 (fact 𝓤 A) (fact 𝓤 B)))
       (λ r. via 𝓤 (conj 𝓤 (fact 𝓤 A) (fact 𝓤 B)) (conj_r 𝓤 (fact 𝓤 R) (conj 𝓤 (fact 𝓤 A) (fact 𝓤 B))) (both (f r)))
+
+  -- beside whatever was asked
+  pub past-asked : (P : SProp 𝓤) {A B C : Type 0} → (A → B → C) → ent 𝓤 (conj 𝓤 P (conj 𝓤 (fact 𝓤 A) (fact 𝓤 B))) (fact 𝓤 C)
+  past-asked P {A} {B} f = via 𝓤 (conj 𝓤 (fact 𝓤 A) (fact 𝓤 B)) (conj_r 𝓤 P (conj 𝓤 (fact 𝓤 A) (fact 𝓤 B))) (both f)
