@@ -63,3 +63,7 @@ module _ {M : Type 1} (𝓤 : Ura M) where
       via 𝓤 (conj 𝓤 P Q) (conj_r 𝓤 X (conj 𝓤 P Q))
       (fact_use 𝓤 B (via 𝓤 P (conj_l 𝓤 P Q) (snd∗ 𝓤 (fact 𝓤 A) (fact 𝓤 B)))
       (λ b. fact_use 𝓤 B₂ (via 𝓤 Q (conj_r 𝓤 P Q) (snd∗ 𝓤 (fact 𝓤 A₂) (fact 𝓤 B₂))) (λ d. fact_i 𝓤 C (conj 𝓤 P Q) (f b d))))
+
+  -- beside whatever was asked
+  pub past-asked : (P : SProp 𝓤) {A B C : Type 0} → (A → B → C) → ent 𝓤 (conj 𝓤 P (conj 𝓤 (fact 𝓤 A) (fact 𝓤 B))) (fact 𝓤 C)
+  past-asked P {A} {B} f = via 𝓤 (conj 𝓤 (fact 𝓤 A) (fact 𝓤 B)) (conj_r 𝓤 P (conj 𝓤 (fact 𝓤 A) (fact 𝓤 B))) (both f)

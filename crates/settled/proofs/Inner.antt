@@ -3,6 +3,9 @@ use Prim.Native.Nat.{ℕ}
 use mathlib.Core.Path.{refl, ap}
 use mathlib.Core.List.{List}
 use Rattle.std.specs.Prelude.{Result, Ok, Err}
+use mir.Syntax.{Dict}
+use denote.RattleType.{RattleType}
+use Rattle.std.specs.declared.clone.Clone.{Ghosts}
 use Rattle.machine.specs.Uncovered.{Uncovered}
 use Rattle.machine.specs.Tallies.{Tallies}
 use Rattle.machine.specs.Moving.{Moving}
@@ -25,14 +28,11 @@ use Rattle.pages.specs.Pages.{Page, page_of}
 use Rattle.written.specs.Drawing.{Pick}
 use Rattle.written.specs.Program.{Ran}
 use Rattle.settled.specs.Outcomes.{Public, Inner, InnerSeen}
-use Rattle.settled.proofs.Facts.{meet, same, both, all_three, second, ten, five}
+use Rattle.settled.proofs.Facts.{meet, same, both, all_three, second, past-asked, ten, five}
 use Rattle.tables.specs.contracts.true_count as true-count
 use Rattle.tables.specs.contracts.xor_true as xor-true
 use Rattle.tables.specs.contracts.one_for as one-for
 use Rattle.tables.specs.contracts.clear as clear
-use Rattle.tables.specs.contracts.clear_words as clear-words
-use Rattle.tables.specs.contracts.clear_names as clear-names
-use Rattle.tables.specs.contracts.clear_bytes as clear-bytes
 use Rattle.tables.specs.contracts.raise as raise
 use Rattle.tables.specs.contracts.enter as enter
 use Rattle.occurrences.specs.contracts.turn_round as turn-round
@@ -92,17 +92,9 @@ xor_true-settled M 𝓤 𝓛 mem run κs a g = record { asks_nothing = refl; one
 pub one-for-settled : Public one-for.ended (λ M 𝓤. one-for.clauses)
 one-for-settled M 𝓤 𝓛 mem run κs a g = record { asks_nothing = refl; one-outcome = λ x y. both 𝓤 (λ p q. same (meet p q) refl) }
 
-pub clear-settled : Public clear.ended (λ M 𝓤. clear.clauses)
-clear-settled M 𝓤 𝓛 mem run κs a g = record { asks_nothing = refl; one-outcome = λ x y. both 𝓤 (λ p q. same refl (ap (λ xs. (xs, (tt, tt))) (meet p q))) }
-
-pub clear-words-settled : Public clear-words.ended (λ M 𝓤. clear-words.clauses)
-clear-words-settled M 𝓤 𝓛 mem run κs a g = record { asks_nothing = refl; one-outcome = λ x y. both 𝓤 (λ p q. same refl (ap (λ xs. (xs, (tt, tt))) (meet p q))) }
-
-pub clear-names-settled : Public clear-names.ended (λ M 𝓤. clear-names.clauses)
-clear-names-settled M 𝓤 𝓛 mem run κs a g = record { asks_nothing = refl; one-outcome = λ x y. both 𝓤 (λ p q. same refl (ap (λ xs. (xs, (tt, tt))) (meet p q))) }
-
-pub clear-bytes-settled : Public clear-bytes.ended (λ M 𝓤. clear-bytes.clauses)
-clear-bytes-settled M 𝓤 𝓛 mem run κs a g = record { asks_nothing = refl; one-outcome = λ x y. both 𝓤 (λ p q. same refl (ap (λ xs. (xs, (tt, tt))) (meet p q))) }
+-- of a table of any type, of which it is asked that what the entries borrow outlives the table
+pub clear-settled : (T : RattleType) (C : Ghosts T.Denot) (d : Dict) → Inner (clear.ended T C d) (λ M 𝓤. clear.clauses T C d)
+clear-settled T C d M 𝓤 𝓛 mem run κs a g = record { one-outcome = λ x y. past-asked 𝓤 _ (λ p q. same refl (ap (λ xs. (xs, (tt, (tt, tt)))) (meet p q))) }
 
 pub raise-settled : Inner raise.ended (λ M 𝓤. raise.clauses)
 raise-settled M 𝓤 𝓛 mem run κs a g = record { one-outcome = λ x y. all_three 𝓤 (λ r p q. same refl (ap (λ xs. (xs, (tt, tt))) (meet p q))) }

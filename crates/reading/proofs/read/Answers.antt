@@ -22,5 +22,5 @@ read_full-requires c =
 pub returns : goal.returns
 returns c =
     let a = c.args in
-    was-marked narrow (read_as a.form narrow a.text.now) (tables a) a.marks.now c.all_full.ensures (ap not c.if-not-all_full.false) c.clear_bytes.ensures
+    was-marked narrow (read_as a.form narrow a.text.now) (tables a) a.marks.now c.all_full.ensures (ap not c.if-not-all_full.false) c.clear.ensures
     c.read_full.ensures

@@ -7,4 +7,4 @@ use Rattle.reading_end.proofs.clear_draft.Goals as goal
 pub returns : goal.returns
 unfolding wiped full_sizes sizes
 returns c =
-    λ i. desk (c.clear_names.ensures i) (c.clear.ensures i) (c.clear-2.ensures i) (c.clear-3.ensures i) (c.clear-4.ensures i)
+    λ i. desk (c.clear.ensures i) (c.clear-2.ensures i) (c.clear-3.ensures i) (c.clear-4.ensures i) (c.clear-5.ensures i)

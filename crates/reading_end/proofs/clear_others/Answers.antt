@@ -7,4 +7,4 @@ use Rattle.reading_end.proofs.clear_others.Goals as goal
 pub returns : goal.returns
 unfolding wiped_others full_sizes sizes word_count
 returns c =
-    λ i. others (c.clear_words.ensures i) (c.clear.ensures i) (c.clear-2.ensures i) (c.clear-3.ensures i) (c.clear-4.ensures i)
+    λ i. others (c.clear.ensures i) (c.clear-2.ensures i) (c.clear-3.ensures i) (c.clear-4.ensures i) (c.clear-5.ensures i)
