@@ -5,8 +5,9 @@ use mathlib.Core.Bool.{Bool, true, false, not, ◌&&◌}
 use mathlib.Core.List.{List, [], ◌∷◌}
 use native.Mathlib.Omega.{arith}
 use lib.ListN.{length, get_or, set}
-use lib.Dec.{ltb}
+use lib.Dec.{eqb, ltb}
 use borrow.Author.Tests.{ltb-true, lt-ltb, le-ltb, leb-true, eq-eqb, ne_eqb}
+use mir.Val.{bool_byte}
 use Rattle.std.specs.Prelude.{Result, Ok, Err, ⊤}
 use Rattle.words.specs.Words.{bit_at}
 use Rattle.written.specs.declared.Refusal.{Refusal}
@@ -59,22 +60,13 @@ module _ (lim : Limits) (k : ℕ) (n : Counts) (t : Tables) (ms : List ℕ) {a :
 
 -- ---- the value asked for
 
-pub asks_for-0 : (v : ℕ) → v ≡ 0 → 0 ≡ value_asked v
+pub as-asked : (v : ℕ) → bool_byte (not (eqb v 0)) ≡ value_asked v
 unfolding value_asked
-asks_for-0 v e = rw (eq-eqb v 0 e) refl
+as-asked v = by_cases (eqb v 0) (λ h. rw h refl) (λ h. rw h refl)
 
-pub asks_for_1 : (v : ℕ) → (v ≡ 0 → ⊥) → 1 ≡ value_asked v
+pub asked-low : (v : ℕ) → value_asked v < 2
 unfolding value_asked
-asks_for_1 v d = rw (ne_eqb v 0 d) refl
-
--- ---- the mark, where v is asked for as a
-
-module _ (ms : List ℕ) (k v : ℕ) {a : ℕ} (asked : a ≡ value_asked v) where
-  pub marked-0 : a ≡ 0 → set ms k 1 ≡ set ms k (1 + value_asked v)
-  marked-0 e = ap (λ x. set ms k (1 + x)) (sym e ∙ asked)
-
-  pub marked_1 : (a ≡ 0 → ⊥) → set ms k 2 ≡ set ms k (1 + value_asked v)
-  marked_1 d = ap (λ x. set ms k (1 + x)) (asks_for_1 v (λ e. d (asked ∙ sym (asks_for-0 v e))))
+asked-low v = by_cases (eqb v 0) (λ h. rw h (omega arith)) (λ h. rw h (omega arith))
 
 -- ---- the flip of one term
 

@@ -35,10 +35,7 @@ fn verdict(term: usize, n: Counts, tables: Tables, marks: &[u8]) -> Result<(), R
 fn asked(value: u32) -> u32
     ensures { result ≡ value_asked value }
 {
-    if value == 0 {
-        return 0;
-    }
-    1
+    u32::from(value != 0)
 }
 
 // The term's mark is that of the value asked for.
@@ -46,11 +43,7 @@ fn mark_term(marks: &mut [u8], term: usize, value: u32)
     requires { term < length marks.old }
     ensures { marks.new ≡ set marks.old term (1 + value_asked value) }
 {
-    if asked(value) == 0 {
-        marks[term] = 1;
-        return;
-    }
-    marks[term] = 2;
+    marks[term] = 1 + asked(value) as u8;
 }
 
 // The term flipped where its value is not the one asked for, on tables that agree. Gives the counts that then stand.
@@ -82,22 +75,23 @@ fn flip_to(
         uncovered.old places.old)))) }
 {
     if words::value(values, term) == asked(value) {
-        return n;
+        n
+    } else {
+        flipping_lists::flip_agreeing(
+            &[term as u16],
+            n,
+            names,
+            values,
+            starts,
+            literals,
+            occurrence_starts,
+            occurrences,
+            trues,
+            breaks,
+            uncovered,
+            places,
+        )
     }
-    flipping_lists::flip_agreeing(
-        &[term as u16],
-        n,
-        names,
-        values,
-        starts,
-        literals,
-        occurrence_starts,
-        occurrences,
-        trues,
-        breaks,
-        uncovered,
-        places,
-    )
 }
 
 // The term marked, and flipped where its value is not the one asked for, or a refusal that changes nothing.

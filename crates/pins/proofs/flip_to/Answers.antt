@@ -19,7 +19,7 @@ returns-then-value-asked c =
 pub overflow_cast-term : goal.overflow_cast-term
 overflow_cast-term c = omega (arith, term-low narrow c.args.term c.args.n (tables c.args) c.requires)
 
-pub returns : goal.returns
-returns c =
+pub returns-else-value-asked : goal.returns-else-value-asked
+returns-else-value-asked c =
     turns narrow c.args.term c.args.n (tables c.args) c.requires c.args.value c.value.ensures c.asked.ensures
     c.if-value-asked.false c.flip_agreeing.ensures
