@@ -15,9 +15,10 @@ fn push(buffer: &mut [u8], at: usize, byte: u8) -> usize
 {
     if at < buffer.len() {
         buffer[at] = byte;
-        return at + 1;
+        at + 1
+    } else {
+        at
     }
-    at
 }
 
 fn put(buffer: &mut [u8], at: usize, bytes: &[u8]) -> usize
@@ -25,10 +26,8 @@ fn put(buffer: &mut [u8], at: usize, bytes: &[u8]) -> usize
     ensures { result ≤ length buffer.new }
 {
     let mut to = at;
-    let mut i = 0;
-    while i < bytes.len() {
-        to = push(buffer, to, bytes[i]);
-        i += 1;
+    for byte in bytes {
+        to = push(buffer, to, *byte);
     }
     to
 }
@@ -38,10 +37,8 @@ fn repeat(buffer: &mut [u8], at: usize, line: &[u8], times: usize) -> usize
     ensures { result ≤ length buffer.new }
 {
     let mut to = at;
-    let mut i = 0;
-    while i < times {
+    for _ in 0..times {
         to = put(buffer, to, line);
-        i += 1;
     }
     to
 }
@@ -51,9 +48,9 @@ fn name_line(buffer: &mut [u8], at: usize, term: usize) -> usize
     requires { at ≤ length buffer.old }
     ensures { result ≤ length buffer.new }
 {
-    let second = push(buffer, at, (48 + term / 64 % 64) as u8);
-    let end = push(buffer, second, (48 + term % 64) as u8);
-    push(buffer, end, 10)
+    let second = push(buffer, at, b'0' + (term / 64 % 64) as u8);
+    let end = push(buffer, second, b'0' + (term % 64) as u8);
+    push(buffer, end, b'\n')
 }
 
 fn name_lines(buffer: &mut [u8], at: usize, terms: usize) -> usize
@@ -61,10 +58,8 @@ fn name_lines(buffer: &mut [u8], at: usize, terms: usize) -> usize
     ensures { result ≤ length buffer.new }
 {
     let mut to = at;
-    let mut i = 0;
-    while i < terms {
-        to = name_line(buffer, to, i);
-        i += 1;
+    for term in 0..terms {
+        to = name_line(buffer, to, term);
     }
     to
 }

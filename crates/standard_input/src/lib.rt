@@ -9,7 +9,7 @@ ghost use Rattle.std.specs.Io.KnownBytes.{Consumes, IsAtEnd, ReadConsumes};
 use std::io::{Cursor, Error, ErrorKind, Read, Result, Write};
 
 // How many bytes were read, and what the last call of `read` answered: 0 at the input's end, and below 0 at a failure, where it is the system's number of
-// the error with a minus before it.
+// the error with a minus before it. One number, since `running_alone::run_read` is told it so.
 #[derive(Clone, Copy)]
 pub struct Seen {
     pub read: usize,
@@ -26,10 +26,9 @@ fn read_some<R: Read>(reader: &mut R, room: &mut [u8]) -> Result<usize>
     ensures bound { ReadsAtMost result room.new }
     ensures bytes { ReadConsumes (R.remaining reader.old) (R.remaining reader.new) result room.new }
 {
-    let mut tries: u32 = 0;
-    while tries < 1000 {
+    for _ in 0..1000 {
         match reader.read(room) {
-            Err(e) if e.kind() == ErrorKind::Interrupted => tries += 1,
+            Err(e) if e.kind() == ErrorKind::Interrupted => {}
             got => return got,
         }
     }
@@ -72,6 +71,7 @@ pub fn read_input<R: Read>(reader: &mut R, buffer: &mut [u8]) -> Seen
     ensures end { result.last ≡ pos 0 → IsAtEnd (R.remaining reader.new) }
 {
     let mut read = 0;
+    // The library reads to an end only into a `Vec`, which this has no heap for.
     while read < buffer.len() {
         match read_some(reader, &mut buffer[read..]) {
             Ok(0) => return Seen { read, last: 0 },
