@@ -71,7 +71,7 @@ pub fn read_input<R: Read>(reader: &mut R, buffer: &mut [u8]) -> Seen
     ensures end { result.last ≡ pos 0 → IsAtEnd (R.remaining reader.new) }
 {
     let mut read = 0;
-    // The library reads to an end only into a `Vec`, which this has no heap for.
+    // `read_to_end` wants a `Vec`, and there is no heap; `io::copy` does not say what was read before a failure.
     while read < buffer.len() {
         match read_some(reader, &mut buffer[read..]) {
             Ok(0) => return Seen { read, last: 0 },

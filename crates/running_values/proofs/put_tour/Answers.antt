@@ -3,9 +3,6 @@ use mathlib.Core.List.{◌∷◌, []}
 use Rattle.pages.proofs.Pieces.{begun, first_fits, onward, ended}
 use Rattle.running_values.proofs.put_tour.Goals as goal
 
-pub put_line-requires : goal.put_line-requires
-put_line-requires c = first_fits (begun _ (_ ∷ _ ∷ []) _ c.requires)
-
 pub put_line-requires-2 : goal.put_line-requires-2
 put_line-requires-2 c = first_fits (onward (begun _ (_ ∷ _ ∷ []) _ c.requires) c.put_line.ensures.bytes)
 
