@@ -1,5 +1,5 @@
 // A reader over lent clause text: a struct that holds the text, the place and the line, and thin functions over it. Each takes
-// the struct apart and calls a covered function of `scan` on the slice and the numbers.
+// the struct apart and calls a covered function of `scan` on the slice and the numbers. No `impl`: the settled statements name them by these paths.
 
 #![tactic(auto)]
 
@@ -37,12 +37,8 @@ pub fn next<'a>(r: Reader<'a>) -> Step
 pub fn pass<'a>(r: Reader<'a>) -> Reader<'a>
     ensures { (result.text ≡ r.entry.text) × (result.at ≡ rest_at r.entry.text.now r.entry.at) × (result.line ≡ r.entry.line) }
 {
-    let e = scan::line_end(r.text, r.at);
-    Reader {
-        text: r.text,
-        at: e,
-        line: r.line,
-    }
+    let at = scan::line_end(r.text, r.at);
+    Reader { at, ..r }
 }
 
 // The next token, and the reader that is lent moves past it.
@@ -88,6 +84,5 @@ pub fn cursor_pass(text: &[u8], at: usize, line: usize) -> usize
     ensures { result ≡ (passed text.now (cursor_at at line)).at }
 {
     let c = Cursor { at, line };
-    let e = c.pass(text);
-    e.at
+    c.pass(text).at
 }

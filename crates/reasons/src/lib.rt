@@ -7,6 +7,7 @@ ghost use Rattle.written.specs.Reasons.{number_of};
 
 use written::Reason;
 
+// A match and no discriminants: the enum stands in `written`, which has no function whose clause would refuse a wrong number.
 pub fn number_of(reason: Reason) -> u32
     ensures { result ≡ number_of reason }
 {
