@@ -54,8 +54,8 @@ fn points_agree(
     ensures { result ≡ agree narrow n (lent_at names.now values.now starts.now literals.now occurrence_starts.now occurrences.now trues.now
         breaks.now uncovered.now places.now) }
 {
-    if agreeing_file::clauses_hold(n, names, starts, literals, occurrence_starts, occurrences) {
-        if agreeing_counts::counts_agree(
+    agreeing_file::clauses_hold(n, names, starts, literals, occurrence_starts, occurrences)
+        && agreeing_counts::counts_agree(
             n,
             values,
             starts,
@@ -66,23 +66,20 @@ fn points_agree(
             breaks,
             uncovered,
             places,
-        ) {
-            return agreeing_rest::rests_agree(
-                n,
-                names,
-                values,
-                starts,
-                literals,
-                occurrence_starts,
-                occurrences,
-                trues,
-                breaks,
-                uncovered,
-                places,
-            );
-        }
-    }
-    false
+        )
+        && agreeing_rest::rests_agree(
+            n,
+            names,
+            values,
+            starts,
+            literals,
+            occurrence_starts,
+            occurrences,
+            trues,
+            breaks,
+            uncovered,
+            places,
+        )
 }
 
 // The tables are full and agree.
@@ -104,7 +101,7 @@ pub fn agrees(
         && agree narrow n (lent_at names.now values.now starts.now literals.now occurrence_starts.now occurrences.now trues.now breaks.now
         uncovered.now places.now)) }
 {
-    if tables::are_full(
+    tables::are_full(
         names,
         values,
         starts,
@@ -115,22 +112,18 @@ pub fn agrees(
         breaks,
         uncovered,
         places,
-    ) {
-        if counts_fit(n) {
-            return points_agree(
-                n,
-                names,
-                values,
-                starts,
-                literals,
-                occurrence_starts,
-                occurrences,
-                trues,
-                breaks,
-                uncovered,
-                places,
-            );
-        }
-    }
-    false
+    ) && counts_fit(n)
+        && points_agree(
+            n,
+            names,
+            values,
+            starts,
+            literals,
+            occurrence_starts,
+            occurrences,
+            trues,
+            breaks,
+            uncovered,
+            places,
+        )
 }
