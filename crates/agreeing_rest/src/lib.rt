@@ -76,22 +76,12 @@ fn clause_rests(
     let terms = n.terms as usize;
     let words = (terms + 31) / 32;
     let held = n.literals as usize;
-    if !names_rest(names, terms, 2048) {
-        return false;
-    }
-    if !values_rest(values, words, 64) {
-        return false;
-    }
-    if !rest_zero(starts, n.clauses as usize + 1, 8193) {
-        return false;
-    }
-    if !rest_zero(literals, held, 16384) {
-        return false;
-    }
-    if !rest_zero(occurrence_starts, 2 * terms + 1, 4097) {
-        return false;
-    }
-    rest_zero(occurrences, held, 16384)
+    names_rest(names, terms, 2048)
+        && values_rest(values, words, 64)
+        && rest_zero(starts, n.clauses as usize + 1, 8193)
+        && rest_zero(literals, held, 16384)
+        && rest_zero(occurrence_starts, 2 * terms + 1, 4097)
+        && rest_zero(occurrences, held, 16384)
 }
 
 // Past those in use, up to the full size, the counts, the list and the places are 0.
@@ -101,16 +91,10 @@ fn count_rests(n: Counts, trues: &[u16], breaks: &[u16], uncovered: &[u16], plac
     ensures { result ≡ count_rests narrow n trues.now breaks.now uncovered.now places.now }
 {
     let clauses = n.clauses as usize;
-    if !rest_zero(trues, clauses, 8192) {
-        return false;
-    }
-    if !rest_zero(breaks, n.terms as usize, 2048) {
-        return false;
-    }
-    if !rest_zero(uncovered, n.uncovered as usize, 8192) {
-        return false;
-    }
-    rest_zero(places, clauses, 8192)
+    rest_zero(trues, clauses, 8192)
+        && rest_zero(breaks, n.terms as usize, 2048)
+        && rest_zero(uncovered, n.uncovered as usize, 8192)
+        && rest_zero(places, clauses, 8192)
 }
 
 // The rest is 0, spare value bits too.

@@ -16,6 +16,7 @@ pub mod Counts
 pub mod Standings
 pub mod Law
 -- loops and calls
+pub mod Rows
 pub mod Runs
 pub mod Scanned
 pub mod Rewritten
