@@ -17,22 +17,11 @@ use written::{Counts, Order, Reason, Refusal, Walked};
 fn in_range(order: Order) -> bool
     ensures { result ≡ in_range order }
 {
-    if order.seed == 0 {
-        return false;
-    }
-    if order.flips > 100000 {
-        return false;
-    }
-    if order.walks == 0 {
-        return false;
-    }
-    if order.walks > 1000 {
-        return false;
-    }
-    if order.bias > 1000 {
-        return false;
-    }
-    order.even <= 1
+    order.seed != 0
+        && order.flips <= 100_000
+        && (1..=1000).contains(&order.walks)
+        && order.bias <= 1000
+        && order.even <= 1
 }
 
 // The tests, in their order: 1, 11, 12.
