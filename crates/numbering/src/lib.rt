@@ -40,7 +40,7 @@ fn name_of(v: u64) -> u64
 {
     let mut rest = v;
     let mut name: u64 = 0;
-    // counted by no index: the digits end where one is left
+    // Not a for: how many digits are left is not known before.
     while 10 <= rest {
         name = 48 + rest % 10 + 256 * name;
         rest /= 10;
@@ -186,7 +186,7 @@ fn numbers(
         dropped: false,
         ended: 0,
     };
-    // Not a for: the last number is the one that is met at the text's end.
+    // Not a for: what is met says whether another follows.
     loop {
         let m = numerals::number_at(text, c);
         match at_numeral(starts, literals, stamps, h, g, m.numeral)? {

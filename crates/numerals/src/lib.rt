@@ -3,9 +3,9 @@
 
 #![tactic(auto)]
 
-ghost use Rattle.std.specs.Prelude.{◌≡◌, ◌+◌, ◌^◌, ◌≤◌, ◌<◌, cond, length, eqb};
-ghost use Rattle.scan.specs.Scan.{start};
-ghost use Rattle.written.specs.Numerals.{past_comments, sizes_at, header_at, past_gaps, number_at};
+ghost use Rattle.std.specs.Prelude.{◌≡◌, ◌+◌, ◌^◌, ◌≤◌, ◌<◌, cond, length, eqb, MatchOption};
+ghost use Rattle.scan.specs.Scan.{start, past};
+ghost use Rattle.written.specs.Numerals.{is_blank, past_comments, sizes_at, header_at, past_gaps, number_at};
 ghost use Rattle.numerals.specs.Numbers.{Within, AtGap, Stops, is_whole};
 
 use scan::{Cursor, Kind};
@@ -29,6 +29,14 @@ pub fn past_comments(text: &[u8]) -> Cursor
     Cursor { at, line }
 }
 
+// Past the blanks that begin at a place, if one does.
+fn past_blanks(text: &[u8], at: usize) -> Option<usize>
+    ensures { MatchOption result (past is_blank text.now at ≤ at) (λ end. (end ≡ past is_blank text.now at) × (at < end)) }
+{
+    let end = scan::skip(text, at, Kind::Blank);
+    if end <= at { None } else { Some(end) }
+}
+
 // The header's numbers, of which the first begins at v.
 fn sizes_at(text: &[u8], v: usize) -> Option<Header>
     ensures { result ≡ sizes_at text.now v }
@@ -40,10 +48,7 @@ fn sizes_at(text: &[u8], v: usize) -> Option<Header>
     if !digits::is_number(&text[v..variables_end]) {
         return None;
     }
-    let c = scan::skip(text, variables_end, Kind::Blank);
-    if c <= variables_end {
-        return None;
-    }
+    let c = past_blanks(text, variables_end)?;
     let end = scan::skip(text, c, Kind::Word);
     if !digits::is_number(&text[c..end]) {
         return None;
@@ -72,17 +77,11 @@ pub fn header_at(text: &[u8], at: usize) -> Option<Header>
     if !digits::begins(&text[at..], b"p") {
         return None;
     }
-    let k = scan::skip(text, at + 1, Kind::Blank);
-    if k <= at + 1 {
-        return None;
-    }
+    let k = past_blanks(text, at + 1)?;
     if !digits::begins(&text[k..], b"cnf") {
         return None;
     }
-    let v = scan::skip(text, k + 3, Kind::Blank);
-    if v <= k + 3 {
-        return None;
-    }
+    let v = past_blanks(text, k + 3)?;
     sizes_at(text, v)
 }
 

@@ -44,7 +44,7 @@ use Rattle.agreeing_counts.specs.contracts.counts_agree as counts-agree
 use Rattle.agreeing_rest.specs.contracts.rests_agree as rests-agree
 use Rattle.names.specs.contracts.add as add
 use Rattle.reading_literal.specs.contracts.place as place
-use Rattle.reading_lines.specs.contracts.refused as refused
+use Rattle.reading_lines.specs.contracts.fault_at as fault-at
 use Rattle.reading_lines.specs.contracts.after_literal as after-literal
 use Rattle.reading_lines.specs.contracts.at_line_end as at-line-end
 use Rattle.reading_lines.specs.contracts.at_text_end as at-text-end
@@ -129,8 +129,8 @@ add-settled M 𝓤 𝓛 mem run κs a g = record { one-outcome = λ x y. all_thr
 pub place-settled : Inner place.ended (λ M 𝓤. place.clauses)
 place-settled M 𝓤 𝓛 mem run κs a g = record { one-outcome = λ x y. all_three 𝓤 (λ r p q. let e = meet p q in same (ap (λ (z : Placed). z.answer) e) (ap (λ (z : Placed). (z.literals, (z.stamps, (tt, (tt, (tt, (tt, tt))))))) e)) }
 
-pub refused-settled : Inner refused.ended (λ M 𝓤. refused.clauses)
-refused-settled M 𝓤 𝓛 mem run κs a g = record { one-outcome = λ x y. all_three 𝓤 (λ r p q. same (meet p q) refl) }
+pub fault-at-settled : Inner fault-at.ended (λ M 𝓤. fault-at.clauses)
+fault-at-settled M 𝓤 𝓛 mem run κs a g = record { one-outcome = λ x y. all_three 𝓤 (λ r p q. same (meet p q) refl) }
 
 pub after-literal-settled : Inner after-literal.ended (λ M 𝓤. after-literal.clauses)
 after-literal-settled M 𝓤 𝓛 mem run κs a g = record { one-outcome = λ x y. all_three 𝓤 (λ r p q. same (meet p q) refl) }

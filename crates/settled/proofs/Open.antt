@@ -5,13 +5,13 @@ use mathlib.Core.List.{List}
 use mathlib.Core.Bool.{Bool, true≢false}
 use lib.ListN.{take}
 use native.Mathlib.Omega.{arith}
+use Rattle.std.proofs.Common.{Result, Ok, Err}
+use Rattle.written.specs.declared.Reason.{Reason}
 use Rattle.written.specs.Lists.{place_of}
 use Rattle.written.specs.Limits.{Limits}
 use Rattle.written.specs.Clauses.{literal_of}
 use Rattle.laws.proofs.Basics.{by-lt}
 use Rattle.machine.specs.Slots.{Vacant}
-use Rattle.names.specs.declared.Found.{Found}
-use Rattle.names.specs.declared.Found.TheVariants.{At, New}
 use Rattle.names.specs.Finding.{homes, Finds}
 use Rattle.reading_literal.specs.declared.Taken.{Taken}
 use Rattle.reading_literal.specs.Taking.{new_terms, new_literals, put_if, Index, TookWith}
@@ -26,17 +26,17 @@ one-slot : {H : ℕ} {known slots : List ℕ} {name s u : ℕ} → Vacant H know
 one-slot {s = s} {u = u} v w =
     by-lt s u (λ h. absurd (w.run s v.from h v.empty)) (λ h. by-lt u s (λ k. absurd (v.run u w.from k w.empty)) (λ k. omega arith))
 
-one_found : (H : ℕ) (known slots : List ℕ) (name : ℕ) (r s : Found) → Finds H known slots name r → Finds H known slots name s → r ≡ s
-one_found H known slots name (At t) (At u) p q = ap At (meet p.1 q.1)
-one_found H known slots name (At t) (New u) p q = absurd (true≢false (sym p.0 ∙ q.0))
-one_found H known slots name (New s) (At u) p q = absurd (true≢false (sym q.0 ∙ p.0))
-one_found H known slots name (New s) (New u) p q = ap New (one-slot p.1 q.1)
+one_found : (H : ℕ) (known slots : List ℕ) (name : ℕ) (r s : Result ℕ ℕ) → Finds H known slots name r → Finds H known slots name s → r ≡ s
+one_found H known slots name (Ok t) (Ok u) p q = ap Ok (meet p.1 q.1)
+one_found H known slots name (Ok t) (Err u) p q = absurd (true≢false (sym p.0 ∙ q.0))
+one_found H known slots name (Err s) (Ok u) p q = absurd (true≢false (sym q.0 ∙ p.0))
+one_found H known slots name (Err s) (Err u) p q = ap Err (one-slot p.1 q.1)
 
 -- a literal that is taken has one fate, and leaves the names and the literals that go with it
 one-taken : {X : Index} {lim : Limits} {names : List ℕ} {terms : ℕ} {literals : List ℕ} {from held : ℕ} {stamps slots : List ℕ} {name : ℕ} {negated : Bool}
-    {n₁ l₁ s₁ h₁ n₂ l₂ s₂ h₂ : List ℕ} {r₁ r₂ : Taken}
+    {n₁ l₁ s₁ h₁ n₂ l₂ s₂ h₂ : List ℕ} {r₁ r₂ : Result Taken Reason}
     → TookWith X lim names terms literals from held stamps slots name negated n₁ l₁ s₁ h₁ r₁
-    → TookWith X lim names terms literals from held stamps slots name negated n₂ l₂ s₂ h₂ r₂ → ◌≡◌ {A = Taken × List ℕ × List ℕ} (r₁, n₁, l₁) (r₂, n₂, l₂)
+    → TookWith X lim names terms literals from held stamps slots name negated n₂ l₂ s₂ h₂ r₂ → ◌≡◌ {A = Result Taken Reason × List ℕ × List ℕ} (r₁, n₁, l₁) (r₂, n₂, l₂)
 one-taken {names = names} {terms = terms} {literals = literals} {held = held} {name = name} {negated = negated} p q i =
     let e = meet p.told q.told in (
       e i,
@@ -52,5 +52,5 @@ pub part-settled : InnerSeen part.ended (List ℕ) (λ κs a x. x.result.now) (�
 part-settled M 𝓤 𝓛 mem run κs a g = record { one_seen = λ x y. all_three 𝓤 (λ r p q. meet p q) }
 
 -- not the stamps and slots: which slot a name takes is the search's business
-pub taken-settled : InnerSeen taken.ended (Taken × List ℕ × List ℕ) (λ κs a x. (x.result, x.left.0, x.left.1.0)) (λ M 𝓤. taken.clauses)
+pub taken-settled : InnerSeen taken.ended (Result Taken Reason × List ℕ × List ℕ) (λ κs a x. (x.result, x.left.0, x.left.1.0)) (λ M 𝓤. taken.clauses)
 taken-settled M 𝓤 𝓛 mem run κs a g = record { one_seen = λ x y. all_three 𝓤 (λ r p q. one-taken p q) }

@@ -8,7 +8,7 @@ use lib.ListN.{length}
 use Rattle.scan.specs.Scan.{past}
 use Rattle.written.specs.Numerals.{is_blank}
 use Rattle.numerals.proofs.Headers.{blank-within, no_line, no_p, no_blank-after-p, no_cnf, no_blank-after-cnf, keys_stand}
-use mathlib.Core.Path.{sym, ◌∙◌}
+use mathlib.Core.Path.{refl, sym, ◌∙◌}
 use Rattle.numerals.proofs.header_at.Goals as goal
 
 within : (t : List ℕ) (at : ℕ) {k : ℕ} → k ≡ past is_blank t (at + 1) → at < length t → k ≤ length t
@@ -20,25 +20,25 @@ returns-then-text-at c = no_line _ _ c.if-text-at.true
 pub returns-then-not-begins : goal.returns-then-not-begins
 returns-then-not-begins c = no_p _ _ (sym c.begins.ensures ∙ c.if-not-begins.true)
 
-pub returns-then-k-at : goal.returns-then-k-at
-returns-then-k-at c = no_blank-after-p _ _ (sym c.begins.ensures ∙ c.if-not-begins.false) c.skip-k.ensures c.if-k-at.true
+pub returns-in_err-k : goal.returns-in_err-k
+returns-in_err-k c = rw c.from_residual.ensures (no_blank-after-p _ _ (sym c.begins.ensures ∙ c.if-not-begins.false) refl c.in_err-k.ensures)
 
 pub slice_bounds-begins-count-2 : goal.slice_bounds-begins-count-2
-slice_bounds-begins-count-2 c = within _ _ c.skip-k.ensures c.if-text-at.false
+slice_bounds-begins-count-2 c = within _ _ c.in_ok-k.ensures.0 c.if-text-at.false
 
 pub slice_bounds-begins-start-2 : goal.slice_bounds-begins-start-2
-slice_bounds-begins-start-2 c = within _ _ c.skip-k.ensures c.if-text-at.false
+slice_bounds-begins-start-2 c = within _ _ c.in_ok-k.ensures.0 c.if-text-at.false
 
 pub returns-then-not-begins-2 : goal.returns-then-not-begins-2
 returns-then-not-begins-2 c =
-    no_cnf _ _ (sym c.begins.ensures ∙ c.if-not-begins.false) c.skip-k.ensures c.if-k-at.false (sym c.begins-2.ensures ∙ c.if-not-begins-2.true)
+    no_cnf _ _ (sym c.begins.ensures ∙ c.if-not-begins.false) c.in_ok-k.ensures.0 c.in_ok-k.ensures.1 (sym c.begins-2.ensures ∙ c.if-not-begins-2.true)
 
-pub returns-then-v-k : goal.returns-then-v-k
-returns-then-v-k c =
-    no_blank-after-cnf _ _ (sym c.begins.ensures ∙ c.if-not-begins.false) c.skip-k.ensures c.if-k-at.false
-    (sym c.begins-2.ensures ∙ c.if-not-begins-2.false) c.skip-v.ensures c.if-v-k.true
+pub returns-in_err-v : goal.returns-in_err-v
+returns-in_err-v c =
+    rw c.from_residual-in_err-v.ensures (no_blank-after-cnf _ _ (sym c.begins.ensures ∙ c.if-not-begins.false) c.in_ok-k.ensures.0 c.in_ok-k.ensures.1
+    (sym c.begins-2.ensures ∙ c.if-not-begins-2.false) refl c.in_err-v.ensures)
 
 pub returns : goal.returns
 returns c =
-    keys_stand _ _ (sym c.begins.ensures ∙ c.if-not-begins.false) c.skip-k.ensures c.if-k-at.false
-    (sym c.begins-2.ensures ∙ c.if-not-begins-2.false) c.skip-v.ensures c.if-v-k.false c.sizes_at.ensures
+    keys_stand _ _ (sym c.begins.ensures ∙ c.if-not-begins.false) c.in_ok-k.ensures.0 c.in_ok-k.ensures.1
+    (sym c.begins-2.ensures ∙ c.if-not-begins-2.false) c.in_ok-v.ensures.0 c.in_ok-v.ensures.1 c.sizes_at.ensures

@@ -8,7 +8,7 @@ use lib.ListN.{length}
 use Rattle.scan.specs.Scan.{past}
 use Rattle.written.specs.Numerals.{is_blank, word_end}
 use Rattle.numerals.proofs.Headers.{word-from, word-within, blank-within, sizes-none, first-none, no_blank, second_none, text-ends, more-after, says_both}
-use mathlib.Core.Path.{sym, ◌∙◌}
+use mathlib.Core.Path.{refl, sym, ◌∙◌}
 use Rattle.numerals.proofs.sizes_at.Goals as goal
 
 second-within : (t : List ℕ) (v : ℕ) {e c d : ℕ} → e ≡ word_end t v → c ≡ past is_blank t e → d ≡ word_end t c → v ≤ length t → d ≤ length t
@@ -29,9 +29,10 @@ slice_bounds-is_number-end c = word-within _ _ c.skip-variables_end.ensures (ome
 pub returns-then-not-is_number : goal.returns-then-not-is_number
 returns-then-not-is_number c = first-none _ _ c.skip-variables_end.ensures (sym c.is_number.ensures ∙ c.if-not-is_number.true)
 
-pub returns-then-c-variables_end : goal.returns-then-c-variables_end
-returns-then-c-variables_end c =
-    no_blank _ _ c.skip-variables_end.ensures (sym c.is_number.ensures ∙ c.if-not-is_number.false) c.skip-c.ensures c.if-c-variables_end.true
+pub returns-in_err-c : goal.returns-in_err-c
+returns-in_err-c c =
+    rw c.from_residual.ensures
+    (no_blank _ _ c.skip-variables_end.ensures (sym c.is_number.ensures ∙ c.if-not-is_number.false) refl c.in_err-c.ensures)
 
 pub slice_bounds-is_number-count-2 : goal.slice_bounds-is_number-count-2
 slice_bounds-is_number-count-2 c = word-from _ _ c.skip-end.ensures
@@ -40,21 +41,21 @@ pub slice_bounds-is_number-start-2 : goal.slice_bounds-is_number-start-2
 slice_bounds-is_number-start-2 c = word-from _ _ c.skip-end.ensures
 
 pub slice_bounds-is_number-end-2 : goal.slice_bounds-is_number-end-2
-slice_bounds-is_number-end-2 c = second-within _ _ c.skip-variables_end.ensures c.skip-c.ensures c.skip-end.ensures (omega (arith, c.if-text-v.false))
+slice_bounds-is_number-end-2 c = second-within _ _ c.skip-variables_end.ensures c.in_ok-c.ensures.0 c.skip-end.ensures (omega (arith, c.if-text-v.false))
 
 pub returns-then-not-is_number-2 : goal.returns-then-not-is_number-2
 returns-then-not-is_number-2 c =
-    second_none _ _ c.skip-variables_end.ensures (sym c.is_number.ensures ∙ c.if-not-is_number.false) c.skip-c.ensures c.if-c-variables_end.false
+    second_none _ _ c.skip-variables_end.ensures (sym c.is_number.ensures ∙ c.if-not-is_number.false) c.in_ok-c.ensures.0 c.in_ok-c.ensures.1
     c.skip-end.ensures (sym c.is_number-2.ensures ∙ c.if-not-is_number-2.true)
 
 pub returns-then-text-end : goal.returns-then-text-end
 returns-then-text-end c =
-    text-ends _ _ c.skip-variables_end.ensures (sym c.is_number.ensures ∙ c.if-not-is_number.false) c.skip-c.ensures c.if-c-variables_end.false
+    text-ends _ _ c.skip-variables_end.ensures (sym c.is_number.ensures ∙ c.if-not-is_number.false) c.in_ok-c.ensures.0 c.in_ok-c.ensures.1
     c.skip-end.ensures (sym c.is_number-2.ensures ∙ c.if-not-is_number-2.false) c.if-text-end.true
 
 pub returns-then-text-end-ne10 : goal.returns-then-text-end-ne10
 returns-then-text-end-ne10 c =
-    more-after _ _ c.skip-variables_end.ensures (sym c.is_number.ensures ∙ c.if-not-is_number.false) c.skip-c.ensures c.if-c-variables_end.false
+    more-after _ _ c.skip-variables_end.ensures (sym c.is_number.ensures ∙ c.if-not-is_number.false) c.in_ok-c.ensures.0 c.in_ok-c.ensures.1
     c.skip-end.ensures (sym c.is_number-2.ensures ∙ c.if-not-is_number-2.false) c.if-text-end-ne10.true
 
 pub slice_bounds-value-count : goal.slice_bounds-value-count
@@ -71,5 +72,5 @@ slice_bounds-value-start-2 c = word-from _ _ c.skip-end.ensures
 
 pub returns : goal.returns
 returns c =
-    says_both _ _ c.skip-variables_end.ensures (sym c.is_number.ensures ∙ c.if-not-is_number.false) c.skip-c.ensures c.if-c-variables_end.false
+    says_both _ _ c.skip-variables_end.ensures (sym c.is_number.ensures ∙ c.if-not-is_number.false) c.in_ok-c.ensures.0 c.in_ok-c.ensures.1
     c.skip-end.ensures (sym c.is_number-2.ensures ∙ c.if-not-is_number-2.false) c.if-text-end-ne10.false c.value.ensures c.value-2.ensures
