@@ -18,12 +18,12 @@ pub slice_bounds-read_on_as-start : goal.slice_bounds-read_on_as-start
 slice_bounds-read_on_as-start c = text-within c.args.form narrow _ _ _ _ c.requires _ c.set_out.ensures c.in-Begins.is
 
 pub read_on_as-requires : goal.read_on_as-requires
-read_on_as-requires c = sheet-reads c.args.form narrow _ _ _ _ c.requires _ c.set_out.ensures c.in-Begins.is c.clear_bytes-in-Begins.ensures
+read_on_as-requires c = sheet-reads c.args.form narrow _ _ _ _ c.requires _ c.set_out.ensures c.in-Begins.is c.clear-in-Begins.ensures
 
 pub returns-in-Long : goal.returns-in-Long
 returns-in-Long c =
     long-ends c.args.form narrow _ _ _ _ c.requires _ c.set_out.ensures c.in-Long.is
-    c.clear_draft.ensures c.clear_others.ensures c.clear_bytes.ensures c.refusal.ensures
+    c.clear_draft.ensures c.clear_others.ensures c.clear.ensures c.refusal.ensures
 
 pub returns-in-Refused : goal.returns-in-Refused
 returns-in-Refused c = sheet-ends c.args.form narrow _ _ _ _ c.requires _ c.set_out.ensures c.in-Refused.is c.refusal-in-Refused.ensures
@@ -31,4 +31,4 @@ returns-in-Refused c = sheet-ends c.args.form narrow _ _ _ _ c.requires _ c.set_
 pub returns-in-Begins : goal.returns-in-Begins
 returns-in-Begins c =
     text-ends c.args.form narrow _ _ _ _ c.requires _ c.set_out.ensures c.in-Begins.is
-    c.clear_bytes-in-Begins.ensures c.read_on_as.ensures
+    c.clear-in-Begins.ensures c.read_on_as.ensures
