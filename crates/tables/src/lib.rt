@@ -34,34 +34,16 @@ pub fn are_full(
     ensures { result ≡ are_full narrow (lent_at names.now values.now starts.now literals.now occurrence_starts.now occurrences.now trues.now
         breaks.now uncovered.now places.now) }
 {
-    if names.len() < 2048 {
-        return false;
-    }
-    if values.len() < 64 {
-        return false;
-    }
-    if starts.len() < 8193 {
-        return false;
-    }
-    if literals.len() < 16384 {
-        return false;
-    }
-    if occurrence_starts.len() < 4097 {
-        return false;
-    }
-    if occurrences.len() < 16384 {
-        return false;
-    }
-    if trues.len() < 8192 {
-        return false;
-    }
-    if breaks.len() < 2048 {
-        return false;
-    }
-    if uncovered.len() < 8192 {
-        return false;
-    }
-    places.len() >= 8192
+    names.len() >= 2048
+        && values.len() >= 64
+        && starts.len() >= 8193
+        && literals.len() >= 16384
+        && occurrence_starts.len() >= 4097
+        && occurrences.len() >= 16384
+        && trues.len() >= 8192
+        && breaks.len() >= 2048
+        && uncovered.len() >= 8192
+        && places.len() >= 8192
 }
 
 // With the marks of terms, which are lent beside the ten.
