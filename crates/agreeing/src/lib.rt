@@ -17,19 +17,11 @@ use written::Counts;
 fn counts_fit(n: Counts) -> bool
     ensures { result ≡ counts_fit narrow n }
 {
-    if n.terms > 2048 {
-        return false;
-    }
-    if n.clauses > 8192 {
-        return false;
-    }
-    if n.literals > 16384 {
-        return false;
-    }
-    if n.uncovered > 8192 {
-        return false;
-    }
-    n.clauses > 0
+    n.terms <= 2048
+        && n.clauses <= 8192
+        && n.literals <= 16384
+        && n.uncovered <= 8192
+        && n.clauses > 0
 }
 
 // ---- all points together
