@@ -18,7 +18,7 @@ pub slice_bounds-read_on-start : goal.slice_bounds-read_on-start
 slice_bounds-read_on-start c = text-within c.args.form narrow _ _ _ _ c.requires _ c.set_out.ensures c.in-Begins.is
 
 pub read_on-requires : goal.read_on-requires
-read_on-requires c = sheet-reads c.args.form narrow _ _ _ _ c.requires _ c.set_out.ensures c.in-Begins.is c.clear_bytes-in-Begins.ensures
+read_on-requires c = sheet-reads c.args.form narrow _ _ _ _ c.requires _ c.set_out.ensures c.in-Begins.is c.clear-in-Begins.ensures
 
 pub returns-in-Long : goal.returns-in-Long
 returns-in-Long c =
@@ -31,4 +31,4 @@ returns-in-Refused c = sheet-ends c.args.form narrow _ _ _ _ c.requires _ c.set_
 pub returns-in-Begins : goal.returns-in-Begins
 returns-in-Begins c =
     text-ends c.args.form narrow _ _ _ _ c.requires _ c.set_out.ensures c.in-Begins.is
-    c.clear_bytes-in-Begins.ensures c.read_on.ensures
+    c.clear-in-Begins.ensures c.read_on.ensures
