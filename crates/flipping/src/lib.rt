@@ -3,10 +3,10 @@
 
 #![tactic(auto)]
 
-ghost use Rattle.std.specs.Prelude.{◌≡◌, ◌+◌, ◌-◌, ◌≤◌, ◌<◌, length, get_or, set};
+ghost use Rattle.std.specs.Prelude.{◌≡◌, ℕ, ◌+◌, ◌-◌, ◌≤◌, ◌<◌, length, get_or, set};
 ghost use Rattle.written.specs.Lists.{steps};
 ghost use Rattle.machine.specs.Uncovered.{uncovered, leaves, CanLeave};
-ghost use Rattle.machine.specs.Tallies.{tallies_at, lowered, CanLower, pick_of};
+ghost use Rattle.machine.specs.Tallies.{Tallies, tallies_at, lowered, CanLower, pick_of};
 ghost use Rattle.machine.specs.Tallies.{below_of, gain_one, lose_one, CanGain, CanLose, CanSteps};
 ghost use Rattle.machine.specs.Moving.{moving_at, occurring, up_of, flip_term, CanFlip};
 
@@ -63,64 +63,91 @@ fn lower_by(counts: &mut [u16], k: usize, d: u16)
     counts[k] -= d;
 }
 
-// Clause c gains a true literal, of term v.
-fn gain_one(
-    trues: &mut [u16],
-    breaks: &mut [u16],
-    list: &mut [u16],
-    places: &mut [u16],
-    number: usize,
-    v: usize,
-    c: u16,
-) -> usize
-    requires { CanGain 65536 v c (tallies_at trues.old breaks.old list.old places.old number) × (v < 65536) }
-    ensures { tallies_at trues.new breaks.new list.new places.new result
-        ≡ gain_one v c (tallies_at trues.old breaks.old list.old places.old number) }
-{
-    let at = c as usize;
-    let k = trues[at];
-    tables::raise(trues, at);
-    if k == 0 {
-        tables::raise(breaks, v);
-        return leave(list, places, number, c, v as u16);
-    }
-    let p = places[at];
-    places[at] = p ^ (v as u16);
-    // it has one or more: one where they are below 2
-    lower_by(breaks, pick(k, 2, p as usize, v), below(k, 2));
-    number
+// What one clause goes through, by a literal of term v that changes.
+trait Step {
+    ghost can: { ℕ → ℕ → Tallies → Type 0 };
+
+    ghost after: { ℕ → ℕ → Tallies → Tallies };
+
+    fn step(
+        trues: &mut [u16],
+        breaks: &mut [u16],
+        list: &mut [u16],
+        places: &mut [u16],
+        number: usize,
+        v: usize,
+        c: u16,
+    ) -> usize
+        requires { can v c (tallies_at trues.old breaks.old list.old places.old number) × (v < 65536) }
+        ensures { tallies_at trues.new breaks.new list.new places.new result ≡ after v c (tallies_at trues.old breaks.old list.old places.old number) };
 }
 
-// Clause c loses a true literal, of term v.
-fn lose_one(
-    trues: &mut [u16],
-    breaks: &mut [u16],
-    list: &mut [u16],
-    places: &mut [u16],
-    number: usize,
-    v: usize,
-    c: u16,
-) -> usize
-    requires { CanLose 65536 v c (tallies_at trues.old breaks.old list.old places.old number) × (v < 65536) }
-    ensures { tallies_at trues.new breaks.new list.new places.new result
-        ≡ lose_one v c (tallies_at trues.old breaks.old list.old places.old number) }
-{
-    let at = c as usize;
-    let k = trues[at];
-    lower(trues, at);
-    if k == 1 {
-        lower(breaks, v);
-        return tables::enter(list, places, number, c);
+// The clause gains a true literal, of term v.
+struct Gain;
+
+impl Step for Gain {
+    ghost can = { CanGain 65536 };
+
+    ghost after = { gain_one };
+
+    fn step(
+        trues: &mut [u16],
+        breaks: &mut [u16],
+        list: &mut [u16],
+        places: &mut [u16],
+        number: usize,
+        v: usize,
+        c: u16,
+    ) -> usize {
+        let at = c as usize;
+        let k = trues[at];
+        tables::raise(trues, at);
+        if k == 0 {
+            tables::raise(breaks, v);
+            return leave(list, places, number, c, v as u16);
+        }
+        let p = places[at];
+        places[at] = p ^ (v as u16);
+        // it has one or more: one where they are below 2
+        lower_by(breaks, pick(k, 2, p as usize, v), below(k, 2));
+        number
     }
-    let p = (places[at] as usize) ^ v;
-    places[at] = p as u16;
-    // it had two or more: two where they are below 3
-    raise_by(breaks, pick(k, 3, p, v), below(k, 3));
-    number
 }
 
-// The clauses of a run gain a true literal each, of term v.
-fn gain_run(
+// The clause loses a true literal, of term v.
+struct Lose;
+
+impl Step for Lose {
+    ghost can = { CanLose 65536 };
+
+    ghost after = { lose_one };
+
+    fn step(
+        trues: &mut [u16],
+        breaks: &mut [u16],
+        list: &mut [u16],
+        places: &mut [u16],
+        number: usize,
+        v: usize,
+        c: u16,
+    ) -> usize {
+        let at = c as usize;
+        let k = trues[at];
+        lower(trues, at);
+        if k == 1 {
+            lower(breaks, v);
+            return tables::enter(list, places, number, c);
+        }
+        let p = (places[at] as usize) ^ v;
+        places[at] = p as u16;
+        // it had two or more: two where they are below 3
+        raise_by(breaks, pick(k, 3, p, v), below(k, 3));
+        number
+    }
+}
+
+// The clauses of a run go through a step each, by a literal of term v.
+fn run_through<S: Step>(
     run: &[u16],
     trues: &mut [u16],
     breaks: &mut [u16],
@@ -129,34 +156,13 @@ fn gain_run(
     number: usize,
     v: usize,
 ) -> usize
-    requires { CanSteps (CanGain 65536 v) (gain_one v) run.now (tallies_at trues.old breaks.old list.old places.old number) × (v < 65536) }
+    requires { CanSteps (S.can v) (S.after v) run.now (tallies_at trues.old breaks.old list.old places.old number) × (v < 65536) }
     ensures { tallies_at trues.new breaks.new list.new places.new result
-        ≡ steps (gain_one v) run.now (tallies_at trues.old breaks.old list.old places.old number) }
+        ≡ steps (S.after v) run.now (tallies_at trues.old breaks.old list.old places.old number) }
 {
     let mut n = number;
     for c in run {
-        n = gain_one(trues, breaks, list, places, n, v, *c);
-    }
-    n
-}
-
-// The clauses of a run lose a true literal each, of term v.
-fn lose_run(
-    run: &[u16],
-    trues: &mut [u16],
-    breaks: &mut [u16],
-    list: &mut [u16],
-    places: &mut [u16],
-    number: usize,
-    v: usize,
-) -> usize
-    requires { CanSteps (CanLose 65536 v) (lose_one v) run.now (tallies_at trues.old breaks.old list.old places.old number) × (v < 65536) }
-    ensures { tallies_at trues.new breaks.new list.new places.new result
-        ≡ steps (lose_one v) run.now (tallies_at trues.old breaks.old list.old places.old number) }
-{
-    let mut n = number;
-    for c in run {
-        n = lose_one(trues, breaks, list, places, n, v, *c);
+        n = S::step(trues, breaks, list, places, n, v, *c);
     }
     n
 }
@@ -190,10 +196,10 @@ pub fn flip_term(
     let up = up_literal(values, v);
     words::turn(values, v);
     let gains = tables::part(occurrence_starts, occurrences, up);
-    let n = gain_run(gains, trues, breaks, list, places, number, v);
+    let n = run_through::<Gain>(gains, trues, breaks, list, places, number, v);
     // the other literal of v
     let losses = tables::part(occurrence_starts, occurrences, up ^ 1);
-    lose_run(losses, trues, breaks, list, places, n, v)
+    run_through::<Lose>(losses, trues, breaks, list, places, n, v)
 }
 
 // The flips of the terms, in order. Gives the uncovered list's new number.

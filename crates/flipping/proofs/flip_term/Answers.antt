@@ -8,11 +8,11 @@ use Rattle.flipping.proofs.flip_term.Goals as goal
 pub part-losses-requires : goal.part-losses-requires
 part-losses-requires c = can-down _ _ _ c.requires (other-down _ _ c.up_literal-up.ensures)
 
-pub lose_run-requires : goal.lose_run-requires
-lose_run-requires c =
+pub run_through-requires : goal.run_through-requires
+run_through-requires c =
     let up = c.up_literal-up.ensures in
     let can = c.requires in
-    (can_lose _ _ _ can (is-gained _ _ _ c.gain_run-n.ensures c.part-gains.ensures up) c.part-losses.ensures (other-down _ _ up), omega (arith, can.small))
+    (can_lose _ _ _ can (is-gained _ _ _ c.run_through-n.ensures c.part-gains.ensures up) c.part-losses.ensures (other-down _ _ up), omega (arith, can.small))
 
 pub returns : goal.returns
 returns c =
@@ -20,6 +20,6 @@ returns c =
     let a = c.args in
     is-flipped (occurring a.occurrence_starts.now a.occurrences.now) a.v
     (moving a.values.now (tallies a.trues.now a.breaks.now a.list.now a.places.now a.number))
-    (is-gained _ _ _ c.gain_run-n.ensures c.part-gains.ensures up)
+    (is-gained _ _ _ c.run_through-n.ensures c.part-gains.ensures up)
     c.turn.ensures
-    c.part-losses.ensures (other-down _ _ up) c.lose_run.ensures
+    c.part-losses.ensures (other-down _ _ up) c.run_through.ensures

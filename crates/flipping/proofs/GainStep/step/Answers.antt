@@ -1,7 +1,7 @@
--- `flipping::gain_one` meets its contract: each way out by the case of the clause's count. Assumes nothing.
+-- `flipping::Gain::step` meets its contract: each way out by the case of the clause's count. Assumes nothing.
 use Rattle.machine.specs.Uncovered.{marks}
 use Rattle.machine.proofs.Steps.{gain_0, gain_light, can-lower-by}
-use Rattle.flipping.proofs.gain_one.Goals as goal
+use Rattle.flipping.proofs.GainStep.step.Goals as goal
 
 pub returns-then-k-eq0 : goal.returns-then-k-eq0
 unfolding marks

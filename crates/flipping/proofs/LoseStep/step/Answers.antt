@@ -1,8 +1,8 @@
--- `flipping::lose_one` meets its contract: each way out by the case of the clause's count. Assumes nothing.
+-- `flipping::Lose::step` meets its contract: each way out by the case of the clause's count. Assumes nothing.
 use Rattle.machine.specs.Uncovered.{marks}
 use Rattle.machine.proofs.Steps.{lose_1, lose_light, can-raise-by}
 use borrow.Author.Rules.{rules}
-use Rattle.flipping.proofs.lose_one.Goals as goal
+use Rattle.flipping.proofs.LoseStep.step.Goals as goal
 
 pub returns-then-k-eq1 : goal.returns-then-k-eq1
 unfolding marks
