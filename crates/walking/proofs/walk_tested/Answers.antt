@@ -11,8 +11,8 @@ all_walks-e-requires c = can-walk narrow _ _ _ _ c.requires c.new.ensures 65536 
 pub close_all-requires : goal.close_all-requires
 close_all-requires c = can_close narrow _ _ _ _ c.requires c.new.ensures 65536 (omega arith) (omega arith) (omega arith) c.all_walks-e.ensures
 
-pub overflow_cast-number : goal.overflow_cast-number
-overflow_cast-number c =
+pub overflow_cast-tour : goal.overflow_cast-tour
+overflow_cast-tour c =
     omega (arith, number-low narrow _ _ _ _ c.requires c.new.ensures 65536 (omega arith) (omega arith) (omega arith) c.all_walks-e.ensures)
 
 pub returns-then-e : goal.returns-then-e
