@@ -17,7 +17,7 @@ use draw::Generator;
 use walking_steps::At;
 use written::{Counts, Order, Tour, Walked};
 
-// How the walks end: found or not, walks begun, and where they stand.
+// How the walks end: found or not, walks begun, and where they stand. The flag is what the one test of the loop reads.
 #[derive(Clone, Copy)]
 struct Ended {
     found: bool,
@@ -29,10 +29,7 @@ struct Ended {
 fn goes_on(found: bool, begun: u32, walks: u32) -> bool
     ensures { result ≡ cond found false (ltb begun walks) }
 {
-    if found {
-        return false;
-    }
-    begun < walks
+    !found && begun < walks
 }
 
 // Walks one after the other, until one has found or all are over. The generator goes on from one to the next.
@@ -81,9 +78,9 @@ fn all_walks(
         found = at.number == 0;
     }
     Ended {
-        found: found,
+        found,
         walks: begun,
-        at: at,
+        at,
     }
 }
 
@@ -131,12 +128,11 @@ pub fn walk_tested(
         },
     );
     recounts::close_all(n.clauses as usize, trues, places);
-    let at = e.at;
     let tour = Tour {
         walks: e.walks,
-        flips: at.flips,
+        flips: e.at.flips,
         counts: Counts {
-            uncovered: at.number as u32,
+            uncovered: e.at.number as u32,
             ..n
         },
     };

@@ -1,10 +1,11 @@
 -- The entries of a list that pass a test, one after another: how many they are, and the way to the one at a place among them. Assumes nothing.
 use Prim.Native.Nat.{ℕ, zero, suc, ◌+◌, ◌-◌, ◌≤◌, ◌<◌}
 use mathlib.Core.Path.{◌≡◌, refl, ap, subst, ◌∙◌}
-use mathlib.Core.Bool.{Bool, cond, ◌&&◌}
+use mathlib.Core.Bool.{Bool, true, cond, ◌&&◌}
 use mathlib.Core.List.{List, [], ◌∷◌, ◌++◌}
 use native.Mathlib.Numerals.{add-one}
 use native.Mathlib.Omega.{arith}
+use mir.Val.{bool_byte}
 use lib.ListN.{length, get_or, take, drop, length-append, length-drop}
 use lib.Seq.{take-suc, take_all, length-take-le, drop-cons}
 use Rattle.written.specs.Lists.{those}
@@ -23,6 +24,10 @@ those-both p q [] = refl
 those-both p q (l ∷ ls) = by_cases (p l) (λ e. rw (e, those-both p q ls)) (λ e. rw (e, those-both p q ls))
 
 -- a test counted as 1 or 0
+pub byte-one : (b : Bool) {n : ℕ} → n ≡ bool_byte b → n ≡ one_if b
+unfolding one_if
+byte-one b e = rw e (by_cases b (λ q. rw q) (λ q. rw q))
+
 pub one-few : (b : Bool) {n : ℕ} → n ≡ one_if b → n ≤ 1
 unfolding one_if
 one-few b e = rw e (one-most b)
@@ -99,5 +104,22 @@ module _ (p : ℕ → Bool) (ls : List ℕ) (j : ℕ) where
   go-more zero i n g l t e = absurd (omega arith)
   go-more (suc k) i n g l t e = rw (e, t) (passed k i g)
 
+  -- there is one more to come, so the entries do not end before it
+  pub go-on : (left i : ℕ) → GoingTo left i → 0 < left → length ls ≤ i → ⊥
+  go-on left i g l e = omega (arith, go-stands left i g l)
+
   pub go-done : (left i : ℕ) → GoingTo left i → left ≤ 0 → get_or ls (i - 1) 0 ≡ get_or (those p ls) j 0
   go-done left i g l = let e : left ≡ 0 = omega arith in rw e at g.rest
+
+  -- the entry at which none is to come any more
+  pub go-last : (left i n : ℕ) {b : Bool} → GoingTo left i → 0 < left → b ≡ p (get_or ls i 0) → n ≡ one_if b → left - n ≡ 0 → get_or ls i 0 ≡ get_or (those p ls) j 0
+  go-last left i n g l t e z =
+      let back : i + 1 - 1 ≡ i = omega arith in
+      subst (λ (k : ℕ). get_or ls k 0 ≡ get_or (those p ls) j 0) back (go-done (left - n) (i + 1) (go-more left i n g l t e) (omega arith))
+
+-- where those that pass are all, each passes
+pub plain-free : (p : ℕ → Bool) (ls : List ℕ) (i : ℕ) → those p ls ≡ ls → i < length ls → p (get_or ls i 0) ≡ true
+plain-free p [] i e l = absurd (omega arith)
+plain-free p (x ∷ ls) zero e l = by_cases (p x) (λ q. q) (λ q. absurd (omega (arith, those-short p ls, ap length (rw q at e))))
+plain-free p (x ∷ ls) (suc i) e l =
+    by_cases (p x) (λ q. let f = rw q at e in plain-free p ls i (cc) (omega arith)) (λ q. absurd (omega (arith, those-short p ls, ap length (rw q at e))))

@@ -3,11 +3,11 @@
 
 #![tactic(auto)]
 
-ghost use Rattle.std.specs.Prelude.{◌≡◌, cond, ◌+◌, ◌/◌, ◌^◌, ◌<◌, length, get_or};
+ghost use Rattle.std.specs.Prelude.{◌≡◌, true, false, cond, ◌+◌, ◌/◌, ◌^◌, ◌<◌, length, get_or};
 ghost use Rattle.written.specs.Marks.{free_in};
 ghost use Rattle.written.specs.Drawing.{choice, chosen_from};
 ghost use Rattle.written.specs.Walk.{one_of};
-ghost use Rattle.walking_choice.specs.Choosing.{pick, one_if, break_in, is_free_in, is_tie, ties_by, lowest, lowest_in, besides, literal_by};
+ghost use Rattle.walking_choice.specs.Choosing.{pick, break_in, is_free_in, is_tie, ties_by, lowest, lowest_in, besides, literal_by};
 ghost use Rattle.walking_choice.specs.Choosing.{CanDraw, HaveEntries, CanPick, Plain};
 
 use draw::{Drawn, Generator};
@@ -21,6 +21,7 @@ pub struct Picked {
 }
 
 // The least break count among the literals of free terms looked at, how many are at it, and the first of them; number 0 where there are none.
+// No Option: the clauses of least_in and literal_in, which stay, are of the three fields.
 #[derive(Clone, Copy)]
 pub struct Least {
     pub low: u32,
@@ -35,9 +36,10 @@ fn choice(order: Order, m: u32, g: Generator) -> Drawn
     ensures { result ≡ choice order m g.state }
 {
     if order.even == 1 {
-        return g.even(m);
+        g.even(m)
+    } else {
+        g.choice(m)
     }
-    g.choice(m)
 }
 
 // A choice among the entries of a list, drawn even for one.
@@ -46,31 +48,28 @@ pub fn chosen_from(order: Order, list: &[u16], g: Generator) -> Picked
     ensures { pick result.entry result.next.state ≡ chosen_from order list.now g.state }
 {
     let d = choice(order, list.len() as u32, g);
-    let next = d.next;
     Picked {
         entry: list[d.number as usize],
-        next,
+        next: d.next,
     }
 }
 
 // ---- a literal
-
-// 1 for a test that holds, else 0: no jump need be made on it.
-fn one_if(b: bool) -> usize
-    ensures { result ≡ one_if b }
-{
-    if b {
-        return 1;
-    }
-    0
-}
 
 // Whether a literal's term is free.
 fn is_free(marks: &[u8], l: u16) -> bool
     requires { l / 2 < length marks.now }
     ensures { result ≡ is_free_in marks.now l }
 {
-    marks[(l / 2) as usize] == 0
+    marks[usize::from(l / 2)] == 0
+}
+
+// The same, but no mark is read where no term is pinned.
+fn is_looked_at(pinned: bool, marks: &[u8], l: u16) -> bool
+    requires { (l / 2 < length marks.now) × (pinned ≡ false → is_free_in marks.now l ≡ true) }
+    ensures { result ≡ is_free_in marks.now l }
+{
+    !pinned || is_free(marks, l)
 }
 
 // The break count of a literal's term.
@@ -78,18 +77,15 @@ fn break_of(breaks: &[u16], l: u16) -> u32
     requires { l / 2 < length breaks.now }
     ensures { result ≡ break_in breaks.now l }
 {
-    breaks[(l / 2) as usize] as u32
+    u32::from(breaks[usize::from(l / 2)])
 }
 
 // Whether a literal's term is free and its break count m.
-fn is_at(breaks: &[u16], marks: &[u8], l: u16, m: u32) -> bool
-    requires { (l / 2 < length breaks.now) × (l / 2 < length marks.now) }
+fn is_at(pinned: bool, breaks: &[u16], marks: &[u8], l: u16, m: u32) -> bool
+    requires { (l / 2 < length breaks.now) × (l / 2 < length marks.now) × (pinned ≡ false → is_free_in marks.now l ≡ true) }
     ensures { result ≡ is_tie breaks.now marks.now m l }
 {
-    if is_free(marks, l) {
-        return break_of(breaks, l) == m;
-    }
-    false
+    is_looked_at(pinned, marks, l) && break_of(breaks, l) == m
 }
 
 // ---- the literals looked at
@@ -100,124 +96,67 @@ fn beside(s: Least, l: u16, b: u32) -> Least
     ensures { lowest result.low result.number result.first ≡ besides (lowest s.low s.number s.first) l b }
 {
     if b < s.low {
-        return Least {
+        Least {
             low: b,
             number: 1,
             first: l,
-        };
-    }
-    // It is at the least if it is not above it: compared so, the compiled code adds the carry.
-    let number = s.number + one_if(b <= s.low);
-    Least {
-        low: s.low,
-        number,
-        first: s.first,
+        }
+    } else {
+        // It is at the least if it is not above it: compared so, the compiled code adds the carry.
+        Least {
+            number: s.number + usize::from(b <= s.low),
+            ..s
+        }
     }
 }
 
 // One literal l more, which is looked at if its term is free.
-fn looked(s: Least, breaks: &[u16], marks: &[u8], l: u16) -> Least
-    requires { (s.number + 1 < 2 ^ 64) × (l / 2 < length breaks.now) × (l / 2 < length marks.now) }
+fn looked(pinned: bool, s: Least, breaks: &[u16], marks: &[u8], l: u16) -> Least
+    requires { (s.number + 1 < 2 ^ 64) × (l / 2 < length breaks.now) × (l / 2 < length marks.now) × (pinned ≡ false → is_free_in marks.now l ≡ true) }
     ensures { lowest result.low result.number result.first ≡ cond (is_free_in marks.now l)
         (besides (lowest s.low s.number s.first) l (break_in breaks.now l)) (lowest s.low s.number s.first) }
 {
-    if is_free(marks, l) {
-        return beside(s, l, break_of(breaks, l));
+    if is_looked_at(pinned, marks, l) {
+        beside(s, l, break_of(breaks, l))
+    } else {
+        s
     }
-    s
 }
 
 // The literals of a clause looked at once, those of free terms only.
-fn least_free(breaks: &[u16], marks: &[u8], clause: &[u16]) -> Least
-    requires { CanPick 65536 breaks.now marks.now clause.now }
-    ensures { lowest result.low result.number result.first
-        ≡ lowest_in 65536 (break_in breaks.now) (free_in marks.now clause.now) }
-{
-    let mut s = Least {
-        low: 65536,
-        number: 0,
-        first: 0,
-    };
-    let mut i: usize = 0;
-    while i < clause.len() {
-        s = looked(s, breaks, marks, clause[i]);
-        i += 1;
-    }
-    s
-}
-
-// All literals of a clause looked at once.
-fn least_all(breaks: &[u16], clause: &[u16]) -> Least
-    requires { (length clause.now < 65536) × HaveEntries breaks.now clause.now }
-    ensures { lowest result.low result.number result.first ≡ lowest_in 65536 (break_in breaks.now) clause.now }
-{
-    let mut s = Least {
-        low: 65536,
-        number: 0,
-        first: 0,
-    };
-    let mut i = 0;
-    while i < clause.len() {
-        let l = clause[i];
-        s = beside(s, l, break_of(breaks, l));
-        i += 1;
-    }
-    s
-}
-
-// Those that are looked at: where no term is pinned, all, and no mark is read.
 pub fn least_in(pinned: bool, breaks: &[u16], marks: &[u8], clause: &[u16]) -> Least
     requires { CanPick 65536 breaks.now marks.now clause.now × Plain pinned marks.now clause.now }
     ensures { lowest result.low result.number result.first
         ≡ lowest_in 65536 (break_in breaks.now) (free_in marks.now clause.now) }
 {
-    if pinned {
-        return least_free(breaks, marks, clause);
+    let mut s = Least {
+        low: 65536,
+        number: 0,
+        first: 0,
+    };
+    for l in clause {
+        s = looked(pinned, s, breaks, marks, *l);
     }
-    least_all(breaks, clause)
+    s
 }
 
 // ---- the one that is picked
 
 // The literal at place j among those of free terms whose break count is m, in reading order.
-fn nth_free_at(breaks: &[u16], marks: &[u8], clause: &[u16], m: u32, j: usize) -> u16
-    requires { CanPick 65536 breaks.now marks.now clause.now
-        × (j < length (ties_by (break_in breaks.now) m (free_in marks.now clause.now))) }
-    ensures { result ≡ get_or (ties_by (break_in breaks.now) m (free_in marks.now clause.now)) j 0 }
-{
-    let mut left = j + 1;
-    let mut i = 0;
-    while 0 < left {
-        left = left - one_if(is_at(breaks, marks, clause[i], m));
-        i += 1;
-    }
-    clause[i - 1]
-}
-
-// The literal at place j among all whose break count is m.
-fn nth_all_at(breaks: &[u16], clause: &[u16], m: u32, j: usize) -> u16
-    requires { HaveEntries breaks.now clause.now × (j < length (ties_by (break_in breaks.now) m clause.now)) }
-    ensures { result ≡ get_or (ties_by (break_in breaks.now) m clause.now) j 0 }
-{
-    let mut more = j + 1;
-    let mut i = 0;
-    while 0 < more {
-        more = more - one_if(break_of(breaks, clause[i]) == m);
-        i += 1;
-    }
-    clause[i - 1]
-}
-
-// The one among those that are looked at.
+// Beside nth_free, and not as a chain: a closure asks each caller to show the bounds of what it captures, which is longer than the loop.
 fn nth_at(pinned: bool, breaks: &[u16], marks: &[u8], clause: &[u16], m: u32, j: usize) -> u16
     requires { CanPick 65536 breaks.now marks.now clause.now
         × (j < length (ties_by (break_in breaks.now) m (free_in marks.now clause.now))) × Plain pinned marks.now clause.now }
     ensures { result ≡ get_or (ties_by (break_in breaks.now) m (free_in marks.now clause.now)) j 0 }
 {
-    if pinned {
-        return nth_free_at(breaks, marks, clause, m, j);
+    let mut left = j + 1;
+    for l in clause {
+        left -= usize::from(is_at(pinned, breaks, marks, *l, m));
+        if left == 0 {
+            return *l;
+        }
     }
-    nth_all_at(breaks, clause, m, j)
+    unreachable!()
 }
 
 // One of the literals at the least: taken without a draw where there is one, several by a choice.
@@ -243,10 +182,9 @@ fn one_at(
         };
     }
     let d = choice(order, least.number as u32, g);
-    let next = d.next;
     Picked {
         entry: nth_at(pinned, breaks, marks, clause, least.low, d.number as usize),
-        next,
+        next: d.next,
     }
 }
 
@@ -255,11 +193,9 @@ fn count_free(marks: &[u8], clause: &[u16]) -> usize
     requires { HaveEntries marks.now clause.now }
     ensures { result ≡ length (free_in marks.now clause.now) }
 {
-    let mut n: usize = 0;
-    let mut i = 0;
-    while i < clause.len() {
-        n = n + one_if(is_free(marks, clause[i]));
-        i += 1;
+    let mut n = 0;
+    for l in clause {
+        n += usize::from(is_free(marks, *l));
     }
     n
 }
@@ -270,12 +206,13 @@ fn nth_free(marks: &[u8], clause: &[u16], j: usize) -> u16
     ensures { result ≡ get_or (free_in marks.now clause.now) j 0 }
 {
     let mut ahead = j + 1;
-    let mut i = 0;
-    while 0 < ahead {
-        ahead = ahead - one_if(is_free(marks, clause[i]));
-        i += 1;
+    for l in clause {
+        ahead -= usize::from(is_free(marks, *l));
+        if ahead == 0 {
+            return *l;
+        }
     }
-    clause[i - 1]
+    unreachable!()
 }
 
 // A choice among the literals of free terms, drawn even for one.
@@ -284,22 +221,22 @@ fn free_from(order: Order, marks: &[u8], clause: &[u16], g: Generator) -> Picked
     ensures { pick result.entry result.next.state ≡ chosen_from order (free_in marks.now clause.now) g.state }
 {
     let d = choice(order, count_free(marks, clause) as u32, g);
-    let next = d.next;
     Picked {
         entry: nth_free(marks, clause, d.number as usize),
-        next,
+        next: d.next,
     }
 }
 
-// A choice among the literals that are looked at.
+// A choice among the literals that are looked at. One way for both, which counts where each passes too, takes 1.03 of a flip's instructions.
 fn drawn_from(pinned: bool, order: Order, marks: &[u8], clause: &[u16], g: Generator) -> Picked
     requires { HaveEntries marks.now clause.now × CanDraw 65536 (free_in marks.now clause.now) × Plain pinned marks.now clause.now }
     ensures { pick result.entry result.next.state ≡ chosen_from order (free_in marks.now clause.now) g.state }
 {
     if pinned {
-        return free_from(order, marks, clause, g);
+        free_from(order, marks, clause, g)
+    } else {
+        chosen_from(order, clause, g)
     }
-    chosen_from(order, clause, g)
 }
 
 // The literal of a clause whose term is flipped.
@@ -322,9 +259,9 @@ pub fn literal_in(
         return one_at(pinned, order, breaks, marks, clause, least, g);
     }
     let d = g.heads(order.bias);
-    let next = d.next;
     if d.number == 1 {
-        return drawn_from(pinned, order, marks, clause, next);
+        drawn_from(pinned, order, marks, clause, d.next)
+    } else {
+        one_at(pinned, order, breaks, marks, clause, least, d.next)
     }
-    one_at(pinned, order, breaks, marks, clause, least, next)
 }

@@ -2,14 +2,19 @@
 use Prim.Native.Nat.{ℕ, zero, suc, ◌+◌, ◌≤◌, ◌<◌}
 use mathlib.Core.Path.{◌≡◌, refl, ◌∙◌}
 use mathlib.Core.Bool.{Bool, true, false, cond}
-use mathlib.Core.List.{List}
-use native.Mathlib.Numerals.{add-one}
+use mathlib.Core.List.{List, [], ◌∷◌, ◌++◌}
 use native.Mathlib.Omega.{arith}
-use lib.ListN.{get_or}
+use lib.ListN.{length, get_or, take}
+use lib.Seq.{take-suc}
 use lib.Dec.{ltb}
 use borrow.Author.Tests.{lt-ltb}
 use Rattle.laws.proofs.Basics.{by_cases, by-lt}
+use Rattle.std.specs.List.{list_any}
 use Rattle.walking_steps.specs.Stepping.{any_pinned}
+
+any-snoc : (xs : List ℕ) (x : ℕ) → list_any (ltb 0) (xs ++ x ∷ []) ≡ cond (list_any (ltb 0) xs) true (ltb 0 x)
+any-snoc [] x = by_cases (ltb 0 x) (λ q. rw q) (λ q. rw q)
+any-snoc (y ∷ xs) x = by_cases (ltb 0 y) (λ q. rw q) (λ q. rw (q, any-snoc xs x))
 
 module _ (ms : List ℕ) where
   -- where none is, each mark is 0
@@ -31,18 +36,8 @@ module _ (ms : List ℕ) where
   none-pinned (suc k) q t l =
       by-lt t k (λ m. none-pinned k (before k q) t m) (λ m. let e : t ≡ k = omega arith in rw e (here k q))
 
-  -- of the first t
-  pub record Seeing (n t : ℕ) (any : Bool) : Type 0 where
-    pub upto : t ≤ n
-    pub sofar : any ≡ any_pinned ms t
-
-  pub see_begun : (n : ℕ) → Seeing n 0 false
+  -- it is one of the first n marks that is above 0
+  pub any-pinned : (n : ℕ) → n ≤ length ms → list_any (ltb 0) (take n ms) ≡ any_pinned ms n
   unfolding any_pinned
-  see_begun n = record { upto = omega arith; sofar = refl }
-
-  pub see_more : (n t : ℕ) {any more : Bool} → Seeing n t any → t < n → more ≡ cond any true (ltb 0 (get_or ms t 0)) → Seeing n (t + 1) more
-  unfolding any_pinned
-  see_more n t s l e = record { upto = omega arith; sofar = rw (add-one t, ← s.sofar) e }
-
-  pub see_done : (n t : ℕ) {any : Bool} → Seeing n t any → n ≤ t → any ≡ any_pinned ms n
-  see_done n t s l = let e : t ≡ n = omega (arith, s.upto) in rw e at s.sofar
+  any-pinned zero l = refl
+  any-pinned (suc k) l = rw (take-suc ms k 0 (omega arith), any-snoc (take k ms) (get_or ms k 0), any-pinned k (omega arith))

@@ -4,7 +4,7 @@
 
 #![tactic(auto)]
 
-ghost use Rattle.std.specs.Prelude.{◌≡◌, true, cond, [], ◌+◌, ◌^◌, ◌≤◌, ◌<◌, length, ltb};
+ghost use Rattle.std.specs.Prelude.{◌≡◌, [], ◌+◌, ◌^◌, ◌≤◌, ◌<◌, length};
 ghost use Rattle.machine.specs.Moving.{fixed, fixed_at};
 ghost use Rattle.walking_steps.specs.Stepping.{stand_at, step_in, CanStep, held_in, start_in, CanStart, onwards_in, any_pinned, walk_in};
 ghost use Rattle.walking_steps.specs.Following.{CanBegin, CanGo};
@@ -43,22 +43,17 @@ fn step(
         ≡ step_in order marks.now (fixed_at starts.now literals.now occurrence_starts.now occurrences.now)
         (stand_at values.old trues.old breaks.old list.old places.old at) }
 {
-    let number = at.number;
-    let g = at.generator;
-    let c = walking_choice::chosen_from(order, &list[..number], g);
-    let then = c.next;
-    let clause = tables::part(starts, literals, c.entry as usize);
+    let c = walking_choice::chosen_from(order, &list[..at.number], at.generator);
+    let clause = tables::part(starts, literals, usize::from(c.entry));
     let least = walking_choice::least_in(pinned, breaks, marks, clause);
     if least.number == 0 {
         return At {
-            number: number,
-            generator: then,
-            flips: at.flips,
+            generator: c.next,
+            ..at
         };
     }
-    let l = walking_choice::literal_in(pinned, order, breaks, marks, clause, least, then);
-    let next = l.next;
-    let left = flipping::flip_term(
+    let l = walking_choice::literal_in(pinned, order, breaks, marks, clause, least, c.next);
+    let number = flipping::flip_term(
         values,
         occurrence_starts,
         occurrences,
@@ -66,14 +61,13 @@ fn step(
         breaks,
         list,
         places,
-        number,
-        (l.entry / 2) as usize,
+        at.number,
+        usize::from(l.entry / 2),
     );
-    let made = at.flips + 1;
     At {
-        number: left,
-        generator: next,
-        flips: made,
+        number,
+        generator: l.next,
+        flips: at.flips + 1,
     }
 }
 
@@ -101,6 +95,7 @@ fn onwards(
 {
     let last = from.flips + order.flips;
     let mut at = from;
+    // Not a `for` over the flips: with one the compiled steps take 1.03 of the instructions.
     while at.flips < last {
         if at.number == 0 {
             return at;
@@ -133,10 +128,8 @@ fn hold_all(values: &mut [u32], marks: &[u8], n: usize)
     requires { n ≤ length marks.now }
     ensures { values.new ≡ held_in marks.now n values.old }
 {
-    let mut t: usize = 0;
-    while t < n {
+    for t in 0..n {
         words::hold(values, t, marks[t]);
-        t += 1;
     }
 }
 
@@ -160,8 +153,7 @@ fn start(
         (stand_at values.old trues.old breaks.old list.old places.old from) }
 {
     let terms = n.terms as usize;
-    let g = from.generator;
-    let drawn = words::fill(values, terms, g);
+    let drawn = words::fill(values, terms, from.generator);
     hold_all(values, marks, terms);
     let number = recounts::count_afresh(
         terms,
@@ -175,20 +167,10 @@ fn start(
         places,
     );
     At {
-        number: number,
+        number,
         generator: drawn,
-        flips: from.flips,
+        ..from
     }
-}
-
-// Whether a term is pinned among those before, or by one mark more.
-fn or_pinned(any: bool, mark: u8) -> bool
-    ensures { result ≡ cond any true (ltb 0 mark) }
-{
-    if any {
-        return true;
-    }
-    0 < mark
 }
 
 // Whether one of the first n terms is pinned: where none is, the steps read no mark.
@@ -196,13 +178,7 @@ fn any_pinned(marks: &[u8], n: usize) -> bool
     requires { n ≤ length marks.now }
     ensures { result ≡ any_pinned marks.now n }
 {
-    let mut any = false;
-    let mut t: usize = 0;
-    while t < n {
-        any = or_pinned(any, marks[t]);
-        t += 1;
-    }
-    any
+    marks[..n].iter().any(|mark| *mark > 0)
 }
 
 // One walk: a start, and onwards from it.

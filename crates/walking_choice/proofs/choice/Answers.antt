@@ -7,6 +7,6 @@ pub returns-then-order-eq1 : goal.returns-then-order-eq1
 unfolding choice
 returns-then-order-eq1 c = simp (c.even.ensures, eq-eqb _ _ c.if-order-eq1.true)
 
-pub returns : goal.returns
+pub returns-else-order-eq1 : goal.returns-else-order-eq1
 unfolding choice
-returns c = simp (c.choice.ensures, ne_eqb _ _ c.if-order-eq1.false)
+returns-else-order-eq1 c = simp (c.choice.ensures, ne_eqb _ _ c.if-order-eq1.false)

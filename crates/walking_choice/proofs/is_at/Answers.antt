@@ -2,10 +2,10 @@
 use Rattle.walking_choice.specs.Choosing.{is_tie}
 use Rattle.walking_choice.proofs.is_at.Goals as goal
 
-pub returns-then-is_free : goal.returns-then-is_free
+pub returns-then-is_looked_at : goal.returns-then-is_looked_at
 unfolding is_tie
-returns-then-is_free c = rw (← c.is_free.ensures, c.if-is_free.true, c.break_of.ensures)
+returns-then-is_looked_at c = rw (← c.is_looked_at.ensures, c.if-is_looked_at.true, c.break_of.ensures)
 
-pub returns : goal.returns
+pub returns-else-is_looked_at : goal.returns-else-is_looked_at
 unfolding is_tie
-returns c = rw (← c.is_free.ensures, c.if-is_free.false)
+returns-else-is_looked_at c = rw (← c.is_looked_at.ensures, c.if-is_looked_at.false)

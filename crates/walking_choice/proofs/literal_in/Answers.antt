@@ -18,7 +18,7 @@ returns-then-d-eq1 c =
     let p = c.requires in
     picked-heads _ _ _ _ (low-is _ _ _ p.1 p.2) c.if-least-eq0.false c.heads-d.ensures c.if-d-eq1.true c.drawn_from.ensures
 
-pub returns : goal.returns
-returns c =
+pub returns-else-d-eq1 : goal.returns-else-d-eq1
+returns-else-d-eq1 c =
     let p = c.requires in
-    picked_tails _ _ _ _ (low-is _ _ _ p.1 p.2) c.if-least-eq0.false c.heads-d.ensures c.if-d-eq1.false c.one_at-2.ensures
+    picked_tails _ _ _ _ (low-is _ _ _ p.1 p.2) c.if-least-eq0.false c.heads-d.ensures c.if-d-eq1.false c.one_at-else-d-eq1.ensures
