@@ -4,9 +4,9 @@ use Rattle.settled.specs.Outcomes.{Public}
 use Rattle.settled.proofs.Facts.{meet, same, both, ten, five, none}
 use Rattle.written.specs.Program.{Ran}
 use Rattle.laws.proofs.Leaves.{the_answer}
-use Rattle.tables.specs.contracts.are_full as are-full
+use Rattle.tables.specs.contracts.Tables.are_full as are-full
 use Rattle.agreeing.specs.contracts.agrees as agrees
-use Rattle.tables.specs.contracts.all_full as all-full
+use Rattle.tables.specs.contracts.Tables.all_full as all-full
 use Rattle.marked.specs.contracts.agrees as marked-agrees
 use Rattle.reading.specs.contracts.read as read
 use Rattle.flipping_lists.specs.contracts.apply as apply

@@ -1,9 +1,11 @@
 -- Facts that are held at once, and what follows from them; what is left behind ten tables, and behind five of them. Assumes nothing.
 use Prim.Native.Nat.{ℕ}
 use mathlib.Core.Path.{◌≡◌, sym, ◌∙◌}
-use mathlib.Core.List.{List}
+use mathlib.Core.List.{List, []}
 use seplogic.Ra.Ura.{Ura}
-use base.Logic.{SProp, ent, sep, via, snd∗}
+use base.Logic.{SProp, ent, sep, emp, via, emp∗, comm∗, snd∗, both⊢}
+use base.Fml.{Lft}
+use contract.BorrowLft.{◌⊑◌, ⊑_static}
 use contract.Monad.{fact, fact_use, fact_i, conj, conj_l, conj_r}
 use contract.Lifetimes.{Lfts}
 use denote.Triple.Entry.{Args}
@@ -67,3 +69,9 @@ module _ {M : Type 1} (𝓤 : Ura M) where
   -- beside whatever was asked
   pub past-asked : (P : SProp 𝓤) {A B C : Type 0} → (A → B → C) → ent 𝓤 (conj 𝓤 P (conj 𝓤 (fact 𝓤 A) (fact 𝓤 B))) (fact 𝓤 C)
   past-asked P {A} {B} f = via 𝓤 (conj 𝓤 (fact 𝓤 A) (fact 𝓤 B)) (conj_r 𝓤 P (conj 𝓤 (fact 𝓤 A) (fact 𝓤 B))) (both f)
+
+  -- what a type asks of a loan is nothing, where its values borrow nothing
+  pub lent-long : (κ : Lft) → sep 𝓤 (fact 𝓤 (κ ⊑ [])) (emp 𝓤) ≡ emp 𝓤
+  lent-long κ =
+      let long = fact 𝓤 (κ ⊑ []) in
+      both⊢ 𝓤 (snd∗ 𝓤 long (emp 𝓤)) (via 𝓤 (sep 𝓤 (emp 𝓤) long) (via 𝓤 long (fact_i 𝓤 (κ ⊑ []) (emp 𝓤) (⊑_static κ)) (emp∗ 𝓤 long)) (comm∗ 𝓤 (emp 𝓤) long))

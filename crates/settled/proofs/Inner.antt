@@ -5,6 +5,7 @@ use mathlib.Core.List.{List}
 use Rattle.std.specs.Prelude.{Result, Ok, Err}
 use mir.Syntax.{Dict}
 use denote.RattleType.{RattleType}
+use Rattle.std.specs.Borrow.{u8, u16, u32, u64}
 use Rattle.std.specs.declared.clone.Clone.{Ghosts}
 use Rattle.machine.specs.Uncovered.{Uncovered}
 use Rattle.machine.specs.Tallies.{Tallies}
@@ -28,7 +29,7 @@ use Rattle.pages.specs.Pages.{Page, page_of}
 use Rattle.written.specs.Drawing.{Pick}
 use Rattle.written.specs.Program.{Ran}
 use Rattle.settled.specs.Outcomes.{Public, Inner, InnerSeen}
-use Rattle.settled.proofs.Facts.{meet, same, both, all_three, second, past-asked, ten, five}
+use Rattle.settled.proofs.Facts.{meet, same, both, all_three, second, past-asked, lent-long, ten, five}
 use Rattle.tables.specs.contracts.true_count as true-count
 use Rattle.tables.specs.contracts.xor_true as xor-true
 use Rattle.tables.specs.contracts.one_for as one-for
@@ -93,8 +94,20 @@ pub one-for-settled : Public one-for.ended (λ M 𝓤. one-for.clauses)
 one-for-settled M 𝓤 𝓛 mem run κs a g = record { asks_nothing = refl; one-outcome = λ x y. both 𝓤 (λ p q. same (meet p q) refl) }
 
 -- of a table of any type, of which it is asked that what the entries borrow outlives the table
-pub clear-settled : (T : RattleType) (C : Ghosts T.Denot) (d : Dict) → Inner (clear.ended T C d) (λ M 𝓤. clear.clauses T C d)
-clear-settled T C d M 𝓤 𝓛 mem run κs a g = record { one-outcome = λ x y. past-asked 𝓤 _ (λ p q. same refl (ap (λ xs. (xs, (tt, (tt, tt)))) (meet p q))) }
+pub clear-any-settled : (T : RattleType) (C : Ghosts T.Denot) (d : Dict) → Inner (clear.ended T C d) (λ M 𝓤. clear.clauses T C d)
+clear-any-settled T C d M 𝓤 𝓛 mem run κs a g = record { one-outcome = λ x y. past-asked 𝓤 _ (λ p q. same refl (ap (λ xs. (xs, (tt, (tt, tt)))) (meet p q))) }
+
+pub clear-settled : (C : Ghosts u16.Denot) (d : Dict) → Public (clear.ended u16 C d) (λ M 𝓤. clear.clauses u16 C d)
+clear-settled C d M 𝓤 𝓛 mem run κs a g = record { asks_nothing = lent-long 𝓤 _; one-outcome = λ x y. both 𝓤 (λ p q. same refl (ap (λ xs. (xs, (tt, (tt, tt)))) (meet p q))) }
+
+pub clear-words-settled : (C : Ghosts u32.Denot) (d : Dict) → Public (clear.ended u32 C d) (λ M 𝓤. clear.clauses u32 C d)
+clear-words-settled C d M 𝓤 𝓛 mem run κs a g = record { asks_nothing = lent-long 𝓤 _; one-outcome = λ x y. both 𝓤 (λ p q. same refl (ap (λ xs. (xs, (tt, (tt, tt)))) (meet p q))) }
+
+pub clear-names-settled : (C : Ghosts u64.Denot) (d : Dict) → Public (clear.ended u64 C d) (λ M 𝓤. clear.clauses u64 C d)
+clear-names-settled C d M 𝓤 𝓛 mem run κs a g = record { asks_nothing = lent-long 𝓤 _; one-outcome = λ x y. both 𝓤 (λ p q. same refl (ap (λ xs. (xs, (tt, (tt, tt)))) (meet p q))) }
+
+pub clear-bytes-settled : (C : Ghosts u8.Denot) (d : Dict) → Public (clear.ended u8 C d) (λ M 𝓤. clear.clauses u8 C d)
+clear-bytes-settled C d M 𝓤 𝓛 mem run κs a g = record { asks_nothing = lent-long 𝓤 _; one-outcome = λ x y. both 𝓤 (λ p q. same refl (ap (λ xs. (xs, (tt, (tt, tt)))) (meet p q))) }
 
 pub raise-settled : Inner raise.ended (λ M 𝓤. raise.clauses)
 raise-settled M 𝓤 𝓛 mem run κs a g = record { one-outcome = λ x y. all_three 𝓤 (λ r p q. same refl (ap (λ xs. (xs, (tt, tt))) (meet p q))) }
