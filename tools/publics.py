@@ -20,7 +20,7 @@ FUNCTION = re.compile(HEAD + r"(?P<contract>.*?)\{\n(?P<body>.*?)^(?P=indent)\}$
 
 def functions_of(source):
     """Each function of a file, with its whole name."""
-    text, crate = source.read_text(), source.parts[-3]
+    text, crate = re.sub(r"(?ms)^(?:pub )?trait \w+ \{.*?^\}\n", "", source.read_text()), source.parts[-3]  # what a trait declares has no body
     found = list(FUNCTION.finditer(text))
     if len(found) != len(re.findall(HEAD, text, re.M)):
         sys.exit(f"{source}: a function is not laid out as rt fmt lays it out")
