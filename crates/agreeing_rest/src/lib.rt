@@ -16,6 +16,7 @@ use tables::Tables;
 use written::Counts;
 
 // Every entry is 0. With no way out of the loop, several entries are taken at a time.
+// Of marks `marked` has the same: one for both would ask a law of `|` and one of 0 for six lines.
 fn all_zero(table: &[u16]) -> bool
     ensures { result ≡ all (λ x. eqb x 0) table.now }
 {
@@ -42,7 +43,7 @@ fn names_rest(names: &[u64], from: usize, full: usize) -> bool
     names[from..full].iter().all(|name| *name == 0)
 }
 
-// The same of value words.
+// The same of value words: apart, since a test of 0 at any type would ask its bounds of a body of one line.
 fn values_rest(words: &[u32], from: usize, full: usize) -> bool
     requires { (from ≤ full) × (full ≤ length words.now) }
     ensures { result ≡ rest_right from full words.now }

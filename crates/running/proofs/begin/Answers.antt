@@ -23,7 +23,7 @@ read_on-requires c = sheet-reads c.args.form narrow _ _ _ _ c.requires _ c.set_o
 pub returns-in-Long : goal.returns-in-Long
 returns-in-Long c =
     long-ends c.args.form narrow _ _ _ _ c.requires _ c.set_out.ensures c.in-Long.is
-    c.clear_draft.ensures c.clear_others.ensures c.clear_bytes.ensures c.refusal.ensures
+    c.clear_draft.ensures c.clear_others.ensures c.clear.ensures c.refusal.ensures
 
 pub returns-in-Refused : goal.returns-in-Refused
 returns-in-Refused c = sheet-ends c.args.form narrow _ _ _ _ c.requires _ c.set_out.ensures c.in-Refused.is c.refusal-in-Refused.ensures
