@@ -56,7 +56,7 @@ fn sizes_at(text: &[u8], v: usize) -> Option<Header>
     if text.len() <= end {
         return None;
     }
-    if text[end] != 10 {
+    if text[end] != b'\n' {
         return None;
     }
     Some(Header {
