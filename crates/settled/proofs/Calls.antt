@@ -52,7 +52,7 @@ pub pin-settled : Public pin.ended (λ M 𝓤. pin.clauses)
 pin-settled M 𝓤 𝓛 mem run κs a g = record { asks_nothing = refl; one-outcome = λ x y. both 𝓤 (λ p q. let e = meet p q in same (the_answer e) (ap (λ l. (tt, (tt, (tt, five l.tables (l.marks, tt))))) e)) }
 
 pub lift-settled : Public lift.ended (λ M 𝓤. lift.clauses)
-lift-settled M 𝓤 𝓛 mem run κs a g = record { asks_nothing = refl; one-outcome = λ x y. both 𝓤 (λ p q. let e = meet p q in same (the_answer e) (ap (λ l. (tt, (tt, none (l.marks, tt)))) e)) }
+lift-settled M 𝓤 𝓛 mem run κs a g = record { asks_nothing = refl; one-outcome = λ x y. both 𝓤 (λ p q. let e = meet p q in same (the_answer e) (ap (λ l. (tt, (tt, (tt, (l.marks, tt))))) e)) }
 
 pub walk-settled : Public walk.ended (λ M 𝓤. walk.clauses)
 walk-settled M 𝓤 𝓛 mem run κs a g = record { asks_nothing = refl; one-outcome = λ x y. both 𝓤 (λ p q. let e = meet p q in same (the_answer e) (ap (λ l. (tt, (tt, five l.tables (tt, tt)))) e)) }
