@@ -1,4 +1,4 @@
-// The static library: the calls of `ngiyarumba` under their C names, with numbers, slices and plain structs. Thin: each export calls the function of its name, and
+// The static library: the calls of `ngiyarumba` under C names, with numbers, slices and plain structs. Thin: each export calls the function of its name, and
 // says what that says.
 
 #![tactic(auto)]

@@ -1,4 +1,4 @@
-// A text of either form read into the lent tables: they are cleared, a draft is made in some of the ten, and the others are worked out from it; no term is marked.
+// A text of either form read into the lent tables: they are cleared, a draft is made in some, and the others are worked out from it; no term is marked.
 
 #![tactic(auto)]
 

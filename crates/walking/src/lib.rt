@@ -25,7 +25,7 @@ struct Ended {
     at: At,
 }
 
-// Whether another walk is to begin. One test for both ways to end: a `for` with a return takes 1.04 of a flip's instructions, the choice of a clause not inlined.
+// Whether another walk is to begin. One test for both ways to end: a `for` with a return takes 1.04 of a flip's instructions.
 fn goes_on(found: bool, begun: u32, walks: u32) -> bool
     ensures { result ≡ cond found false (ltb begun walks) }
 {
