@@ -297,8 +297,8 @@ fn occurrences_agree(
 // Names, starts, literals and occurrences hold a file.
 pub fn clauses_hold(n: Counts, tables: Tables) -> bool
     requires { let t = seen tables in (counts_fit narrow n ≡ true) × ((full_sizes narrow).names ≤ length t.names)
-        × ((full_sizes narrow).starts ≤ length t.starts) × ((full_sizes narrow).literals ≤ length t.literals) × ((full_sizes narrow).occurrence_starts ≤ length t.occurrence_starts)
-        × ((full_sizes narrow).occurrences ≤ length t.occurrences) }
+        × ((full_sizes narrow).starts ≤ length t.starts) × ((full_sizes narrow).literals ≤ length t.literals)
+        × ((full_sizes narrow).occurrence_starts ≤ length t.occurrence_starts) × ((full_sizes narrow).occurrences ≤ length t.occurrences) }
     ensures { let t = seen tables.entry in result ≡ (file_right n t.names t.starts t.literals
         && turned_right n.terms n.literals (clauses_in n.clauses t.starts t.literals) t.occurrence_starts t.occurrences) }
 {
