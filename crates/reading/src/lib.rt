@@ -1,4 +1,5 @@
 // A text of either form read into the lent tables: they are cleared, a draft is made in some, and the others are worked out from it; no term is marked.
+// The ten are lent one by one: of a struct of `&mut`s that is lent itself the check lends one field at a time, and a draft is made in five.
 
 #![tactic(auto)]
 

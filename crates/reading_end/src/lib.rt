@@ -1,5 +1,6 @@
 // The ends of a reading: the tests of a text as a whole, the tables cleared, and a whole draft worked out into tables at values of 0.
 // A function that another crate of the library calls may ask what its caller proves; none is exported.
+// The tables are lent one by one, as in `reading`.
 
 #![tactic(auto)]
 

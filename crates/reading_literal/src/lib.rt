@@ -1,5 +1,6 @@
 // One literal of clause text taken into the open line: its name looked up by the slots, repeats and opposites seen by stamps. A stamp is the
 // place of its term's latest literal, believed only if that place is in the open line and holds a literal of the term: stamps need no start value.
+// The tables are lent one by one: a name is looked for in two of them at once (`reading`).
 
 #![tactic(auto)]
 

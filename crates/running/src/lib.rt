@@ -1,5 +1,6 @@
 // The programs' whole work on lent memory: an order sheet and a text of either form in, the result lines out.
 // `begin` asks something of its tables and of the buffer by one record, which its caller proves; `run_sheet` asks nothing.
+// The tables are lent one by one, as in `reading`.
 
 #![tactic(auto)]
 

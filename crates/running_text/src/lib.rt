@@ -1,5 +1,6 @@
 // A text of either form read and walked over, with no term pinned, and the result lines in a lent buffer.
 // A function that asks something of its tables or of the buffer does so by one record, which its caller proves.
+// The tables are lent one by one, as in `reading`.
 
 #![tactic(auto)]
 
