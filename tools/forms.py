@@ -53,8 +53,8 @@ POINTS = {
     '4 bytes as numbers': lines(r'(==|!=|<=|<|put_byte\(\w+, \w+,) (9|10|32|33|45|48|57|58|99|118|125|126)\b'),
     '5 functions with nine parameters or more': [f'{f}: {n} {len(p)}' for f, t in LIBRARY for n, p, b in functions(t) if len(p) >= 9],
     '5 contracts that spell ten tables': lines(r'lent_(at|before|after) \w+\.'),
-    '6 a buffer with a place beside it': lines(r'out: &mut \[u8\], at: usize'),
-    '7 a switch on what to do': lines(r'\bmatch (form|k) \{|\bif pinned \{'),
+    '6 a buffer with a place beside it': lines(r'(out|buffer): &mut \[u8\], at: usize'),
+    '7 a switch on what to do': lines(r'\bmatch (form|k|self) \{|\bif pinned \{'),
 }
 for point, places in POINTS.items():
     print(f'{len(places):4} {point}')
