@@ -1,1 +1,2 @@
--- The functions' proofs stand beside their names; the laws they cite are in machine.
+-- What the proofs of these functions cite beside the laws of machine; they stand beside the functions' names.
+pub mod Picking

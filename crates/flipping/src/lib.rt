@@ -3,35 +3,13 @@
 
 #![tactic(auto)]
 
-ghost use Rattle.std.specs.Prelude.{◌≡◌, ℕ, ◌+◌, ◌-◌, ◌≤◌, ◌<◌, length, get_or, set};
+ghost use Rattle.std.specs.Prelude.{◌≡◌, ℕ, ◌<◌};
 ghost use Rattle.written.specs.Lists.{steps};
-ghost use Rattle.machine.specs.Uncovered.{uncovered, leaves, CanLeave};
-ghost use Rattle.machine.specs.Tallies.{Tallies, tallies_at, lowered, CanLower, pick_of};
-ghost use Rattle.machine.specs.Tallies.{below_of, gain_one, lose_one, CanGain, CanLose, CanSteps};
+ghost use Rattle.machine.specs.Uncovered.{leaves, enters, CanLeave, CanEnter};
+ghost use Rattle.machine.specs.Tallies.{Tallies, pick_of, below_of};
+ghost use Rattle.machine.specs.Tallies.{gain_one, lose_one, CanGain, CanLose, CanSteps};
 ghost use Rattle.machine.specs.Moving.{moving_at, occurring, up_of, flip_term, CanFlip};
-
-// One less at k.
-fn lower(counts: &mut [u16], k: usize)
-    requires { CanLower counts.old k }
-    ensures { counts.new ≡ lowered counts.old k }
-{
-    counts[k] -= 1;
-}
-
-// Clause c leaves the uncovered list, and its place becomes v. Gives the list's new number.
-fn leave(list: &mut [u16], places: &mut [u16], number: usize, c: u16, v: u16) -> usize
-    requires { CanLeave c (uncovered list.old places.old number) }
-    ensures { uncovered list.new places.new result ≡ leaves c v (uncovered list.old places.old number) }
-{
-    let at = c as usize;
-    let slot = places[at];
-    let last = list[number - 1];
-    list[slot as usize] = last;
-    list[number - 1] = 0;
-    places[last as usize] = slot;
-    places[at] = v;
-    number - 1
-}
+ghost use Rattle.flipping.specs.Tables.{tallies_of, uncovered_of, SameTables, SameCounts};
 
 // p where k is below m, else v: no jump is made on it. Both are wide, so that nothing is widened after the choice.
 fn pick(k: u16, m: u16, p: usize, v: usize) -> usize
@@ -47,20 +25,85 @@ fn below(k: u16, m: u16) -> u16
     u16::from(k < m)
 }
 
-// d more at k.
-fn raise_by(counts: &mut [u16], k: usize, d: u16)
-    requires { (k < length counts.old) × (get_or counts.old k 0 + d < 65536) }
-    ensures { counts.new ≡ set counts.old k (get_or counts.old k 0 + d) }
-{
-    counts[k] += d;
+// The counts of the clauses, and the list of the uncovered ones with its places and its number of entries.
+#[derive(Drop)]
+struct Tallies<'a> {
+    trues: &'a mut [u16],
+    breaks: &'a mut [u16],
+    list: &'a mut [u16],
+    places: &'a mut [u16],
+    number: usize,
 }
 
-// d less at k.
-fn lower_by(counts: &mut [u16], k: usize, d: u16)
-    requires { (k < length counts.old) × (d ≤ get_or counts.old k 0) }
-    ensures { counts.new ≡ set counts.old k (get_or counts.old k 0 - d) }
-{
-    counts[k] -= d;
+impl<'a> Tallies<'a> {
+    // Clause c leaves the uncovered list, and its place becomes v.
+    fn leave(&mut self, c: u16, v: u16)
+        requires { CanLeave c (uncovered_of self.old) }
+        ensures same_tables { SameTables self.old self.new }
+        ensures same_counts { SameCounts self.old self.new }
+        ensures listed { uncovered_of self.new ≡ leaves c v (uncovered_of self.old) }
+    {
+        let at = c as usize;
+        let slot = self.places[at];
+        let last = self.list[self.number - 1];
+        self.list[slot as usize] = last;
+        self.list[self.number - 1] = 0;
+        self.places[last as usize] = slot;
+        self.places[at] = v;
+        self.number -= 1;
+    }
+
+    // Clause c is put at the end of the uncovered list: not by `tables::enter`, since two fields behind a `&mut` can not be lent at once.
+    fn enter(&mut self, c: u16)
+        requires { CanEnter 65536 c (uncovered_of self.old) }
+        ensures same_tables { SameTables self.old self.new }
+        ensures same_counts { SameCounts self.old self.new }
+        ensures listed { uncovered_of self.new ≡ enters c (uncovered_of self.old) }
+    {
+        self.list[self.number] = c;
+        self.places[c as usize] = self.number as u16;
+        self.number += 1;
+    }
+
+    // Clause c gains a true literal, of term v.
+    fn gain(&mut self, v: usize, c: u16)
+        requires { CanGain 65536 v c (tallies_of self.old) × (v < 65536) }
+        ensures same_tables { SameTables self.old self.new }
+        ensures counts { tallies_of self.new ≡ gain_one v c (tallies_of self.old) }
+    {
+        let at = c as usize;
+        let k = self.trues[at];
+        self.trues[at] = k + 1;
+        if k == 0 {
+            self.breaks[v] += 1;
+            self.leave(c, v as u16);
+            return;
+        }
+        let p = self.places[at];
+        self.places[at] = p ^ (v as u16);
+        // it has one or more: one where they are below 2
+        self.breaks[pick(k, 2, p as usize, v)] -= below(k, 2);
+    }
+
+    // Clause c loses a true literal, of term v.
+    fn lose(&mut self, v: usize, c: u16)
+        requires { CanLose 65536 v c (tallies_of self.old) × (v < 65536) }
+        ensures same_tables { SameTables self.old self.new }
+        ensures counts { tallies_of self.new ≡ lose_one v c (tallies_of self.old) }
+    {
+        let at = c as usize;
+        let k = self.trues[at];
+        self.trues[at] = k - 1;
+        if k == 1 {
+            self.breaks[v] -= 1;
+            self.enter(c);
+            return;
+        }
+        let p = (self.places[at] as usize) ^ v;
+        self.places[at] = p as u16;
+        // it had two or more: two where they are below 3
+        self.breaks[pick(k, 3, p, v)] += below(k, 3);
+    }
 }
 
 // What one clause goes through, by a literal of term v that changes.
@@ -69,17 +112,10 @@ trait Step {
 
     ghost after: { ℕ → ℕ → Tallies → Tallies };
 
-    fn step(
-        trues: &mut [u16],
-        breaks: &mut [u16],
-        list: &mut [u16],
-        places: &mut [u16],
-        number: usize,
-        v: usize,
-        c: u16,
-    ) -> usize
-        requires { can v c (tallies_at trues.old breaks.old list.old places.old number) × (v < 65536) }
-        ensures { tallies_at trues.new breaks.new list.new places.new result ≡ after v c (tallies_at trues.old breaks.old list.old places.old number) };
+    fn step(tallies: &mut Tallies<'_>, v: usize, c: u16)
+        requires { can v c (tallies_of tallies.old) × (v < 65536) }
+        ensures same_tables { SameTables tallies.old tallies.new }
+        ensures counts { tallies_of tallies.new ≡ after v c (tallies_of tallies.old) };
 }
 
 // The clause gains a true literal, of term v.
@@ -90,27 +126,8 @@ impl Step for Gain {
 
     ghost after = { gain_one };
 
-    fn step(
-        trues: &mut [u16],
-        breaks: &mut [u16],
-        list: &mut [u16],
-        places: &mut [u16],
-        number: usize,
-        v: usize,
-        c: u16,
-    ) -> usize {
-        let at = c as usize;
-        let k = trues[at];
-        tables::raise(trues, at);
-        if k == 0 {
-            tables::raise(breaks, v);
-            return leave(list, places, number, c, v as u16);
-        }
-        let p = places[at];
-        places[at] = p ^ (v as u16);
-        // it has one or more: one where they are below 2
-        lower_by(breaks, pick(k, 2, p as usize, v), below(k, 2));
-        number
+    fn step(tallies: &mut Tallies<'_>, v: usize, c: u16) {
+        tallies.gain(v, c);
     }
 }
 
@@ -122,49 +139,20 @@ impl Step for Lose {
 
     ghost after = { lose_one };
 
-    fn step(
-        trues: &mut [u16],
-        breaks: &mut [u16],
-        list: &mut [u16],
-        places: &mut [u16],
-        number: usize,
-        v: usize,
-        c: u16,
-    ) -> usize {
-        let at = c as usize;
-        let k = trues[at];
-        lower(trues, at);
-        if k == 1 {
-            lower(breaks, v);
-            return tables::enter(list, places, number, c);
-        }
-        let p = (places[at] as usize) ^ v;
-        places[at] = p as u16;
-        // it had two or more: two where they are below 3
-        raise_by(breaks, pick(k, 3, p, v), below(k, 3));
-        number
+    fn step(tallies: &mut Tallies<'_>, v: usize, c: u16) {
+        tallies.lose(v, c);
     }
 }
 
 // The clauses of a run go through a step each, by a literal of term v.
-fn run_through<S: Step>(
-    run: &[u16],
-    trues: &mut [u16],
-    breaks: &mut [u16],
-    list: &mut [u16],
-    places: &mut [u16],
-    number: usize,
-    v: usize,
-) -> usize
-    requires { CanSteps (S.can v) (S.after v) run.now (tallies_at trues.old breaks.old list.old places.old number) × (v < 65536) }
-    ensures { tallies_at trues.new breaks.new list.new places.new result
-        ≡ steps (S.after v) run.now (tallies_at trues.old breaks.old list.old places.old number) }
+fn run_through<S: Step>(run: &[u16], tallies: &mut Tallies<'_>, v: usize)
+    requires { CanSteps (S.can v) (S.after v) run.now (tallies_of tallies.old) × (v < 65536) }
+    ensures same_tables { SameTables tallies.old tallies.new }
+    ensures counts { tallies_of tallies.new ≡ steps (S.after v) run.now (tallies_of tallies.old) }
 {
-    let mut n = number;
     for c in run {
-        n = S::step(trues, breaks, list, places, n, v, *c);
+        S::step(tallies, v, *c);
     }
-    n
 }
 
 // The literal of term v that becomes true as v is flipped.
@@ -195,11 +183,19 @@ pub fn flip_term(
 {
     let up = up_literal(values, v);
     words::turn(values, v);
+    let mut tallies = Tallies {
+        trues,
+        breaks,
+        list,
+        places,
+        number,
+    };
     let gains = tables::part(occurrence_starts, occurrences, up);
-    let n = run_through::<Gain>(gains, trues, breaks, list, places, number, v);
+    run_through::<Gain>(gains, &mut tallies, v);
     // the other literal of v
     let losses = tables::part(occurrence_starts, occurrences, up ^ 1);
-    run_through::<Lose>(losses, trues, breaks, list, places, n, v)
+    run_through::<Lose>(losses, &mut tallies, v);
+    tallies.number
 }
 
 // The flips of the terms, in order. Gives the uncovered list's new number.

@@ -1,0 +1,8 @@
+-- `flipping::Tallies::leave` meets its contract: the code is the definition, written out. Assumes nothing.
+use mathlib.Core.Path.{refl}
+use Rattle.machine.specs.Uncovered.{leaves}
+use Rattle.flipping.proofs.Tallies.leave.Goals as goal
+
+pub returns-clause-listed : goal.returns-clause-listed
+unfolding leaves
+returns-clause-listed c = refl

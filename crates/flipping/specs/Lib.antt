@@ -1,0 +1,2 @@
+-- The counts of the clauses as the code holds them.
+pub mod Tables
