@@ -37,10 +37,10 @@ pub fn ngi_flip(
         marks.now) }
 {
     let n = Counts {
-        terms: terms,
-        clauses: clauses,
-        literals: literals,
-        uncovered: uncovered,
+        terms,
+        clauses,
+        literals,
+        uncovered,
     };
     let answer = flipping_lists::apply(
         list,

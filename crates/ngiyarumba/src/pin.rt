@@ -39,10 +39,10 @@ pub fn ngi_pin(
         marks.old) }
 {
     let n = Counts {
-        terms: terms,
-        clauses: clauses,
-        literals: literals,
-        uncovered: uncovered,
+        terms,
+        clauses,
+        literals,
+        uncovered,
     };
     let answer = pins::pin(
         term as usize,
@@ -92,10 +92,10 @@ pub fn ngi_lift(
         marks.old) }
 {
     let n = Counts {
-        terms: terms,
-        clauses: clauses,
-        literals: literals,
-        uncovered: uncovered,
+        terms,
+        clauses,
+        literals,
+        uncovered,
     };
     let tables = Tables {
         names,

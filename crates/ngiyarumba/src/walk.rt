@@ -41,17 +41,17 @@ pub fn ngi_walk(
         marks.now) }
 {
     let o = Order {
-        seed: seed,
-        flips: flips,
-        walks: walks,
-        bias: bias,
-        even: even,
+        seed,
+        flips,
+        walks,
+        bias,
+        even,
     };
     let n = Counts {
-        terms: terms,
-        clauses: clauses,
-        literals: literals,
-        uncovered: uncovered,
+        terms,
+        clauses,
+        literals,
+        uncovered,
     };
     let answer = walking_call::walk(
         o,

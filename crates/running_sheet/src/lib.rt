@@ -21,10 +21,7 @@ struct Entry {
 fn fault(i: u32, reason: Reason) -> Fault
     ensures { result ≡ fault_at i reason }
 {
-    Fault {
-        reason: reason,
-        line: i,
-    }
+    Fault { reason, line: i }
 }
 
 // Line i of the sheet, the first of the rest: its form, then its range.
@@ -77,7 +74,7 @@ fn numbers(input: &[u8]) -> Result<Sheet, Fault>
         even: 0,
     };
     Ok(Sheet {
-        order: order,
+        order,
         at: (to_bias + b.size) as u32,
     })
 }
