@@ -43,12 +43,12 @@ impl<'a> Tallies<'a> {
         ensures same_counts { SameCounts self.old self.new }
         ensures listed { uncovered_of self.new ≡ leaves c v (uncovered_of self.old) }
     {
-        let at = c as usize;
+        let at = usize::from(c);
         let slot = self.places[at];
         let last = self.list[self.number - 1];
-        self.list[slot as usize] = last;
+        self.list[usize::from(slot)] = last;
         self.list[self.number - 1] = 0;
-        self.places[last as usize] = slot;
+        self.places[usize::from(last)] = slot;
         self.places[at] = v;
         self.number -= 1;
     }
@@ -61,7 +61,7 @@ impl<'a> Tallies<'a> {
         ensures listed { uncovered_of self.new ≡ enters c (uncovered_of self.old) }
     {
         self.list[self.number] = c;
-        self.places[c as usize] = self.number as u16;
+        self.places[usize::from(c)] = self.number as u16;
         self.number += 1;
     }
 
@@ -71,7 +71,7 @@ impl<'a> Tallies<'a> {
         ensures same_tables { SameTables self.old self.new }
         ensures counts { tallies_of self.new ≡ gain_one v c (tallies_of self.old) }
     {
-        let at = c as usize;
+        let at = usize::from(c);
         let k = self.trues[at];
         self.trues[at] = k + 1;
         if k == 0 {
@@ -82,7 +82,7 @@ impl<'a> Tallies<'a> {
         let p = self.places[at];
         self.places[at] = p ^ (v as u16);
         // it has one or more: one where they are below 2
-        self.breaks[pick(k, 2, p as usize, v)] -= below(k, 2);
+        self.breaks[pick(k, 2, usize::from(p), v)] -= below(k, 2);
     }
 
     // Clause c loses a true literal, of term v.
@@ -91,7 +91,7 @@ impl<'a> Tallies<'a> {
         ensures same_tables { SameTables self.old self.new }
         ensures counts { tallies_of self.new ≡ lose_one v c (tallies_of self.old) }
     {
-        let at = c as usize;
+        let at = usize::from(c);
         let k = self.trues[at];
         self.trues[at] = k - 1;
         if k == 1 {
@@ -99,7 +99,7 @@ impl<'a> Tallies<'a> {
             self.enter(c);
             return;
         }
-        let p = (self.places[at] as usize) ^ v;
+        let p = usize::from(self.places[at]) ^ v;
         self.places[at] = p as u16;
         // it had two or more: two where they are below 3
         self.breaks[pick(k, 3, p, v)] += below(k, 3);
@@ -228,7 +228,7 @@ pub fn flip_all(
             list,
             places,
             n,
-            *v as usize,
+            usize::from(*v),
         );
     }
     n
