@@ -44,11 +44,16 @@ fn lines(rt: &impl Print, title: &str, line: &str, times: usize, last: &str) -> 
     show(rt, title, bytes_of(&input))
 }
 
-// Lines of one term, each named by its number.
+// Lines of one term, each named by two bytes.
 fn terms(rt: &impl Print, title: &str, count: usize) -> Result<()> {
     let mut input = sheet()?;
     for term in 0..count {
-        writeln!(input, "{term}")?;
+        let name = [
+            b'0' + (term / 64 % 64) as u8,
+            b'0' + (term % 64) as u8,
+            b'\n',
+        ];
+        input.write_all(&name)?;
     }
     show(rt, title, bytes_of(&input))
 }
