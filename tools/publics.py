@@ -13,7 +13,7 @@ sys.dont_write_bytecode = True  # nothing is written into the tree
 from statements import ROOT, functions, rows  # noqa: E402
 
 MOST_LINES = 40
-LEFT_OPEN = {"reading_lines::draft", "numbering::draft", "reading_draft::draft", "standard_input::read_input", "standard_input::failure", "standard_input::tell"}  # docs/STATEMENTS.md, "Exceptions"
+LEFT_OPEN = {"reading_lines::draft", "numbering::draft", "reading_draft::draft", "standard_input::read_input", "standard_input::failure", "standard_input::tell", "program::run"}  # docs/STATEMENTS.md, "Exceptions"
 HEAD = r'^(?P<indent> *)(?P<public>pub )?(?P<export>extern "C" )?fn (?P<name>\w+)'
 FUNCTION = re.compile(HEAD + r"(?P<contract>.*?)\{\n(?P<body>.*?)^(?P=indent)\}$", re.M | re.S)
 
@@ -58,7 +58,7 @@ def main():
     found = [(source, *pair) for source in sorted(ROOT.glob("crates/*/src/**/*.rt")) for pair in functions_of(source)]
     here = [pair for _, *pair in found]
     public = {name: function for name, function in here if function["public"] and not function["export"]}
-    asking = {name for name, function in public.items() if "requires {" in function["contract"]}
+    asking = {name for name, function in public.items() if re.search(r"\brequires (\w+ )?\{", function["contract"])}
     listed = [(name, row.get("asks", "nothing")) for section, row in rows() for name in functions(section, row)]
     may_ask = {name for name, asks in listed if asks != "nothing"}
     wrong = differences(public.keys(), {name for name, _ in listed}, "no statement names it", "a statement names it, and it is not there")

@@ -50,8 +50,8 @@ pub fn failure(last: isize) -> Error {
     Error::from_raw_os_error(i32::try_from(last.wrapping_neg()).unwrap_or(EIO))
 }
 
-// Says on standard error that something failed, and why in the system's words alone.
-pub fn tell(rt: &impl Eprint, what: &str, why: &Error) {
+// Says on standard error that something of a program failed, and why in the system's words alone.
+pub fn tell(rt: &impl Eprint, program: &str, what: &str, why: &Error) {
     let mut said = Cursor::new([0u8; 256]);
     let _ = write!(said, "{why}");
     let text = said.into_inner();
@@ -59,8 +59,8 @@ pub fn tell(rt: &impl Eprint, what: &str, why: &Error) {
         .ok()
         .and_then(|it| it.split_once(" (os error "))
     {
-        Some((words, _)) => eprintln!(rt; "{what}: {words}"),
-        None => eprintln!(rt; "{what}: {why}"),
+        Some((words, _)) => eprintln!(rt; "{program}: {what}: {words}"),
+        None => eprintln!(rt; "{program}: {what}: {why}"),
     };
 }
 
