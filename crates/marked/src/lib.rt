@@ -41,7 +41,7 @@ fn marks_hold(terms: usize, values: &[u32], marks: &[u8]) -> bool
     true
 }
 
-// Every mark is 0. With no way out of the loop, several are taken at a time.
+// Every mark is 0. With no way out of the loop, several are taken at a time; `agreeing_rest::all_zero` says why the two are apart.
 fn no_marks(marks: &[u8]) -> bool
     ensures { result ≡ all (λ m. eqb m 0) marks.now }
 {

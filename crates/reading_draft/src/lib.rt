@@ -1,4 +1,4 @@
-// A text of either form drafted into cleared tables: clause text by its tokens, numbered text by its numbers.
+// A text of either form drafted into cleared tables: clause text by its tokens, numbered text by its numbers. Two ways, both here, and no trait.
 
 #![tactic(auto)]
 

@@ -1,4 +1,4 @@
-// What is printed by the form of the text: our own lines, or the competition's.
+// What is printed by the form of the text: our own lines, or the competition's. Two ways, both here: a trait for them would be no plainer.
 // Each function asks that what it writes fits, by one record, which its caller proves; none is exported.
 
 #![tactic(auto)]

@@ -9,7 +9,7 @@ ghost use Rattle.std.specs.Io.KnownBytes.{Consumes, IsAtEnd, ReadConsumes};
 use std::io::{Cursor, Error, ErrorKind, Read, Result, Write};
 
 // How many bytes were read, and what the last call of `read` answered: 0 at the input's end, and below 0 at a failure, where it is the system's number of
-// the error with a minus before it. One number, since `running_alone::run_read` is told it so.
+// the error with a minus before it. One number: `running_alone`'s `shown_as` and `failed-shows-nothing` are of it.
 #[derive(Clone, Copy)]
 pub struct Seen {
     pub read: usize,
