@@ -5,9 +5,9 @@
 
 ghost use Rattle.std.specs.Prelude.{◌≡◌, true, ◌&&◌};
 ghost use Rattle.written.specs.Limits.{narrow};
+ghost use Rattle.written.specs.Lending.{lent_at};
 ghost use Rattle.written.specs.Tables.{are_full};
 ghost use Rattle.written.specs.Agreement.{counts_fit, agree};
-ghost use Rattle.tables.specs.Seen.{seen};
 
 use tables::Tables;
 use written::Counts;
@@ -29,8 +29,13 @@ fn counts_fit(n: Counts) -> bool
 
 // Counts that fit agree with full tables.
 fn points_agree(n: Counts, tables: Tables) -> bool
-    requires { (are_full narrow (seen tables) ≡ true) × (counts_fit narrow n ≡ true) }
-    ensures { result ≡ agree narrow n (seen tables.entry) }
+    requires { let t = tables in (are_full narrow
+        (lent_at t.names.now t.values.now t.starts.now t.literals.now t.occurrence_starts.now t.occurrences.now t.trues.now
+        t.breaks.now t.uncovered.now t.places.now) ≡ true)
+        × (counts_fit narrow n ≡ true) }
+    ensures { let t = tables.entry in result ≡ agree narrow n
+        (lent_at t.names.now t.values.now t.starts.now t.literals.now t.occurrence_starts.now t.occurrences.now t.trues.now
+        t.breaks.now t.uncovered.now t.places.now) }
 {
     agreeing_file::clauses_hold(n, tables)
         && agreeing_counts::counts_agree(n, tables)
@@ -39,7 +44,9 @@ fn points_agree(n: Counts, tables: Tables) -> bool
 
 // The tables are full and agree.
 pub fn agrees(n: Counts, tables: Tables) -> bool
-    ensures { result ≡ (are_full narrow (seen tables.entry) && agree narrow n (seen tables.entry)) }
+    ensures { let t = tables.entry in let u = lent_at t.names.now t.values.now t.starts.now t.literals.now t.occurrence_starts.now t.occurrences.now t.trues.now
+        t.breaks.now t.uncovered.now t.places.now in
+        result ≡ (are_full narrow u && agree narrow n u) }
 {
     tables.are_full() && counts_fit(n) && points_agree(n, tables)
 }

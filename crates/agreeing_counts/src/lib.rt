@@ -9,7 +9,6 @@ ghost use Rattle.written.specs.Agreement.{part_of};
 ghost use Rattle.machine.specs.Moving.{CanPart, down_of};
 ghost use Rattle.machine.specs.Judging.{clauses_in, values_in, trues_right, counts_right};
 ghost use Rattle.machine.specs.Tested.{count_of, ones_in, break_at, break_tested, place_tested, InCounts, CanTrues, CanBreaks, CanList, CanCounts};
-ghost use Rattle.tables.specs.Seen.{seen};
 
 use tables::Tables;
 use written::Counts;
@@ -126,8 +125,10 @@ fn list_agrees(n: Counts, trues: &[u16], uncovered: &[u16], places: &[u16]) -> b
 
 // The counts are those of the values, and the list holds each uncovered clause once, with its place.
 pub fn counts_agree(n: Counts, tables: Tables) -> bool
-    requires { let t = seen tables in CanCounts n t.values t.starts t.literals t.occurrence_starts t.occurrences t.trues t.breaks t.uncovered t.places }
-    ensures { let t = seen tables.entry in result ≡ counts_right n t.values t.starts t.literals t.trues t.breaks t.uncovered t.places }
+    requires { let t = tables in CanCounts n t.values.now t.starts.now t.literals.now t.occurrence_starts.now t.occurrences.now t.trues.now
+        t.breaks.now t.uncovered.now t.places.now }
+    ensures { let t = tables.entry in result ≡ counts_right n t.values.now t.starts.now t.literals.now t.trues.now t.breaks.now t.uncovered.now
+        t.places.now }
 {
     let values = tables.values;
     let trues = tables.trues;

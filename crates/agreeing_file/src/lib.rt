@@ -15,7 +15,6 @@ ghost use Rattle.agreeing_file.specs.Matching.{cuts_right, stands_at, is_next, p
 ghost use Rattle.agreeing_file.specs.Matching.{clauses_next, pass_clauses, runs_passed, CanPass, CanPassAll, CanMatch};
 ghost use Rattle.machine.specs.Slots.{Indexed};
 ghost use Rattle.names.specs.Finding.{homes};
-ghost use Rattle.tables.specs.Seen.{seen};
 
 use tables::Tables;
 use written::Counts;
@@ -95,7 +94,7 @@ fn starts_agree(n: Counts, starts: &[u16]) -> bool
     let clauses = n.clauses as usize;
     starts[0] == 0
         && starts[..=clauses].is_sorted_by(|a, b| a < b)
-        && u32::from(starts[clauses]) == n.literals
+        && usize::from(starts[clauses]) == n.literals as usize
 }
 
 // Each literal's term is one of the terms and does not have the mark; it then gets it.
@@ -296,11 +295,11 @@ fn occurrences_agree(
 
 // Names, starts, literals and occurrences hold a file.
 pub fn clauses_hold(n: Counts, tables: Tables) -> bool
-    requires { let t = seen tables in (counts_fit narrow n ≡ true) × ((full_sizes narrow).names ≤ length t.names)
-        × ((full_sizes narrow).starts ≤ length t.starts) × ((full_sizes narrow).literals ≤ length t.literals)
-        × ((full_sizes narrow).occurrence_starts ≤ length t.occurrence_starts) × ((full_sizes narrow).occurrences ≤ length t.occurrences) }
-    ensures { let t = seen tables.entry in result ≡ (file_right n t.names t.starts t.literals
-        && turned_right n.terms n.literals (clauses_in n.clauses t.starts t.literals) t.occurrence_starts t.occurrences) }
+    requires { let t = tables in (counts_fit narrow n ≡ true) × ((full_sizes narrow).names ≤ length t.names.now)
+        × ((full_sizes narrow).starts ≤ length t.starts.now) × ((full_sizes narrow).literals ≤ length t.literals.now)
+        × ((full_sizes narrow).occurrence_starts ≤ length t.occurrence_starts.now) × ((full_sizes narrow).occurrences ≤ length t.occurrences.now) }
+    ensures { let t = tables.entry in result ≡ (file_right n t.names.now t.starts.now t.literals.now
+        && turned_right n.terms n.literals (clauses_in n.clauses t.starts.now t.literals.now) t.occurrence_starts.now t.occurrences.now) }
 {
     let starts = tables.starts;
     let literals = tables.literals;

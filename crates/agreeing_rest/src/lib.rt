@@ -7,8 +7,8 @@ ghost use Rattle.std.specs.Prelude.{◌≡◌, true, ◌&&◌, ◌≤◌, length
 ghost use Rattle.words.specs.Words.{word_count};
 ghost use Rattle.written.specs.Lists.{all};
 ghost use Rattle.written.specs.Limits.{narrow};
+ghost use Rattle.written.specs.Lending.{lent_at};
 ghost use Rattle.written.specs.Tables.{are_full};
-ghost use Rattle.tables.specs.Seen.{seen};
 ghost use Rattle.written.specs.Agreement.{counts_fit};
 ghost use Rattle.machine.specs.Judging.{rest_right, spare_right, clause_rests, count_rests};
 
@@ -100,10 +100,13 @@ fn count_rests(n: Counts, trues: &[u16], breaks: &[u16], uncovered: &[u16], plac
 
 // The rest is 0, spare value bits too.
 pub fn rests_agree(n: Counts, tables: Tables) -> bool
-    requires { (are_full narrow (seen tables) ≡ true) × (counts_fit narrow n ≡ true) }
-    ensures { let t = seen tables.entry in result ≡ (clause_rests narrow n t.names t.values t.starts t.literals t.occurrence_starts t.occurrences
-        && count_rests narrow n t.trues t.breaks t.uncovered t.places
-        && spare_right n.terms (take (word_count n.terms) t.values)) }
+    requires { let t = tables in (are_full narrow
+        (lent_at t.names.now t.values.now t.starts.now t.literals.now t.occurrence_starts.now t.occurrences.now t.trues.now
+        t.breaks.now t.uncovered.now t.places.now) ≡ true)
+        × (counts_fit narrow n ≡ true) }
+    ensures { let t = tables.entry in result ≡ (clause_rests narrow n t.names.now t.values.now t.starts.now t.literals.now t.occurrence_starts.now
+        t.occurrences.now && count_rests narrow n t.trues.now t.breaks.now t.uncovered.now t.places.now
+        && spare_right n.terms (take (word_count n.terms) t.values.now)) }
 {
     let terms = n.terms as usize;
     let words = (terms + 31) / 32;

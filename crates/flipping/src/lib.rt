@@ -5,11 +5,10 @@
 
 ghost use Rattle.std.specs.Prelude.{◌≡◌, ℕ, ◌<◌};
 ghost use Rattle.written.specs.Lists.{steps};
-ghost use Rattle.machine.specs.Uncovered.{leaves, enters, CanLeave, CanEnter};
-ghost use Rattle.machine.specs.Tallies.{Tallies, pick_of, below_of};
+ghost use Rattle.machine.specs.Uncovered.{uncovered, leaves, enters, CanLeave, CanEnter};
+ghost use Rattle.machine.specs.Tallies.{Tallies, tallies_at, pick_of, below_of};
 ghost use Rattle.machine.specs.Tallies.{gain_one, lose_one, CanGain, CanLose, CanSteps};
 ghost use Rattle.machine.specs.Moving.{moving_at, occurring, up_of, flip_term, CanFlip};
-ghost use Rattle.flipping.specs.Tables.{tallies_of, uncovered_of, SameTables, SameCounts};
 
 // p where k is below m, else v: no jump is made on it. Both are wide, so that nothing is widened after the choice.
 fn pick(k: u16, m: u16, p: usize, v: usize) -> usize
@@ -38,10 +37,12 @@ struct Tallies<'a> {
 impl<'a> Tallies<'a> {
     // Clause c leaves the uncovered list, and its place becomes v.
     fn leave(&mut self, c: u16, v: u16)
-        requires { CanLeave c (uncovered_of self.old) }
-        ensures same_tables { SameTables self.old self.new }
-        ensures same_counts { SameCounts self.old self.new }
-        ensures listed { uncovered_of self.new ≡ leaves c v (uncovered_of self.old) }
+        requires { let t = self.old in CanLeave c (uncovered t.list.now t.places.now t.number) }
+        ensures same_tables { let t = self.old in let u = self.new in (u.trues.ghost_name ≡ t.trues.ghost_name)
+            × (u.breaks.ghost_name ≡ t.breaks.ghost_name) × (u.list.ghost_name ≡ t.list.ghost_name) × (u.places.ghost_name ≡ t.places.ghost_name) }
+        ensures same_counts { let t = self.old in let u = self.new in (u.trues.now ≡ t.trues.now) × (u.breaks.now ≡ t.breaks.now) }
+        ensures listed { let t = self.old in let u = self.new in uncovered u.list.now u.places.now u.number
+            ≡ leaves c v (uncovered t.list.now t.places.now t.number) }
     {
         let at = usize::from(c);
         let slot = self.places[at];
@@ -55,10 +56,12 @@ impl<'a> Tallies<'a> {
 
     // Clause c is put at the end of the uncovered list: not by `tables::enter`, since two fields behind a `&mut` can not be lent at once.
     fn enter(&mut self, c: u16)
-        requires { CanEnter 65536 c (uncovered_of self.old) }
-        ensures same_tables { SameTables self.old self.new }
-        ensures same_counts { SameCounts self.old self.new }
-        ensures listed { uncovered_of self.new ≡ enters c (uncovered_of self.old) }
+        requires { let t = self.old in CanEnter 65536 c (uncovered t.list.now t.places.now t.number) }
+        ensures same_tables { let t = self.old in let u = self.new in (u.trues.ghost_name ≡ t.trues.ghost_name)
+            × (u.breaks.ghost_name ≡ t.breaks.ghost_name) × (u.list.ghost_name ≡ t.list.ghost_name) × (u.places.ghost_name ≡ t.places.ghost_name) }
+        ensures same_counts { let t = self.old in let u = self.new in (u.trues.now ≡ t.trues.now) × (u.breaks.now ≡ t.breaks.now) }
+        ensures listed { let t = self.old in let u = self.new in uncovered u.list.now u.places.now u.number
+            ≡ enters c (uncovered t.list.now t.places.now t.number) }
     {
         self.list[self.number] = c;
         self.places[usize::from(c)] = self.number as u16;
@@ -67,9 +70,11 @@ impl<'a> Tallies<'a> {
 
     // Clause c gains a true literal, of term v.
     fn gain(&mut self, v: usize, c: u16)
-        requires { CanGain 65536 v c (tallies_of self.old) × (v < 65536) }
-        ensures same_tables { SameTables self.old self.new }
-        ensures counts { tallies_of self.new ≡ gain_one v c (tallies_of self.old) }
+        requires { let t = self.old in CanGain 65536 v c (tallies_at t.trues.now t.breaks.now t.list.now t.places.now t.number) × (v < 65536) }
+        ensures same_tables { let t = self.old in let u = self.new in (u.trues.ghost_name ≡ t.trues.ghost_name)
+            × (u.breaks.ghost_name ≡ t.breaks.ghost_name) × (u.list.ghost_name ≡ t.list.ghost_name) × (u.places.ghost_name ≡ t.places.ghost_name) }
+        ensures counts { let t = self.old in let u = self.new in tallies_at u.trues.now u.breaks.now u.list.now u.places.now u.number
+            ≡ gain_one v c (tallies_at t.trues.now t.breaks.now t.list.now t.places.now t.number) }
     {
         let at = usize::from(c);
         let k = self.trues[at];
@@ -87,9 +92,11 @@ impl<'a> Tallies<'a> {
 
     // Clause c loses a true literal, of term v.
     fn lose(&mut self, v: usize, c: u16)
-        requires { CanLose 65536 v c (tallies_of self.old) × (v < 65536) }
-        ensures same_tables { SameTables self.old self.new }
-        ensures counts { tallies_of self.new ≡ lose_one v c (tallies_of self.old) }
+        requires { let t = self.old in CanLose 65536 v c (tallies_at t.trues.now t.breaks.now t.list.now t.places.now t.number) × (v < 65536) }
+        ensures same_tables { let t = self.old in let u = self.new in (u.trues.ghost_name ≡ t.trues.ghost_name)
+            × (u.breaks.ghost_name ≡ t.breaks.ghost_name) × (u.list.ghost_name ≡ t.list.ghost_name) × (u.places.ghost_name ≡ t.places.ghost_name) }
+        ensures counts { let t = self.old in let u = self.new in tallies_at u.trues.now u.breaks.now u.list.now u.places.now u.number
+            ≡ lose_one v c (tallies_at t.trues.now t.breaks.now t.list.now t.places.now t.number) }
     {
         let at = usize::from(c);
         let k = self.trues[at];
@@ -113,9 +120,11 @@ trait Step {
     ghost after: { ℕ → ℕ → Tallies → Tallies };
 
     fn step(tallies: &mut Tallies<'_>, v: usize, c: u16)
-        requires { can v c (tallies_of tallies.old) × (v < 65536) }
-        ensures same_tables { SameTables tallies.old tallies.new }
-        ensures counts { tallies_of tallies.new ≡ after v c (tallies_of tallies.old) };
+        requires { let t = tallies.old in can v c (tallies_at t.trues.now t.breaks.now t.list.now t.places.now t.number) × (v < 65536) }
+        ensures same_tables { let t = tallies.old in let u = tallies.new in (u.trues.ghost_name ≡ t.trues.ghost_name)
+            × (u.breaks.ghost_name ≡ t.breaks.ghost_name) × (u.list.ghost_name ≡ t.list.ghost_name) × (u.places.ghost_name ≡ t.places.ghost_name) }
+        ensures counts { let t = tallies.old in let u = tallies.new in tallies_at u.trues.now u.breaks.now u.list.now u.places.now u.number
+            ≡ after v c (tallies_at t.trues.now t.breaks.now t.list.now t.places.now t.number) };
 }
 
 // The clause gains a true literal, of term v.
@@ -146,9 +155,12 @@ impl Step for Lose {
 
 // The clauses of a run go through a step each, by a literal of term v.
 fn run_through<S: Step>(run: &[u16], tallies: &mut Tallies<'_>, v: usize)
-    requires { CanSteps (S.can v) (S.after v) run.now (tallies_of tallies.old) × (v < 65536) }
-    ensures same_tables { SameTables tallies.old tallies.new }
-    ensures counts { tallies_of tallies.new ≡ steps (S.after v) run.now (tallies_of tallies.old) }
+    requires { let t = tallies.old in CanSteps (S.can v) (S.after v) run.now (tallies_at t.trues.now t.breaks.now t.list.now t.places.now t.number)
+        × (v < 65536) }
+    ensures same_tables { let t = tallies.old in let u = tallies.new in (u.trues.ghost_name ≡ t.trues.ghost_name)
+        × (u.breaks.ghost_name ≡ t.breaks.ghost_name) × (u.list.ghost_name ≡ t.list.ghost_name) × (u.places.ghost_name ≡ t.places.ghost_name) }
+    ensures counts { let t = tallies.old in let u = tallies.new in tallies_at u.trues.now u.breaks.now u.list.now u.places.now u.number
+        ≡ steps (S.after v) run.now (tallies_at t.trues.now t.breaks.now t.list.now t.places.now t.number) }
 {
     for c in run {
         S::step(tallies, v, *c);

@@ -13,7 +13,6 @@ ghost use Rattle.written.specs.Outcomes.{leaves, ten, ten_of, flips_leave, flips
 ghost use Rattle.machine.specs.Moving.{fixed_at, moving_at};
 ghost use Rattle.machine.specs.Passes.{applied, CanApply};
 ghost use Rattle.flipping_lists.specs.Tests.{tests_of, terms_tested, CanFlipList};
-ghost use Rattle.tables.specs.Seen.{seen};
 
 use tables::Tables;
 use written::{Counts, Reason, Refusal};
@@ -22,7 +21,7 @@ use written::{Counts, Reason, Refusal};
 fn known(list: &[u16], terms: u32) -> bool
     ensures { result ≡ all (λ v. ltb v terms) list.now }
 {
-    list.iter().all(|v| u32::from(*v) < terms)
+    list.iter().all(|v| usize::from(*v) < terms as usize)
 }
 
 // The term t has no mark; past the marks none has one.
@@ -54,7 +53,10 @@ fn terms_verdict(list: &[u16], terms: u32, marks: &[u8]) -> Result<(), Reason>
 
 // The tests, in their order: 1, 14, 12, then those of the list's terms.
 fn verdict(list: &[u16], n: Counts, tables: Tables, marks: &[u8]) -> Result<(), Reason>
-    ensures { result ≡ tests_of narrow list.now n (seen tables.entry) marks.now }
+    ensures { let t = tables.entry in result ≡ tests_of narrow list.now n
+        (lent_at t.names.now t.values.now t.starts.now t.literals.now t.occurrence_starts.now t.occurrences.now t.trues.now
+        t.breaks.now t.uncovered.now t.places.now)
+        marks.now }
 {
     if !tables.all_full(marks) {
         return Err(Reason::TableTooShort);

@@ -7,9 +7,9 @@ ghost use Rattle.std.specs.Prelude.{◌≡◌, ◌&&◌, ◌≤◌, length, eqb}
 ghost use Rattle.words.specs.Words.{bit_at};
 ghost use Rattle.written.specs.Lists.{all, list_of};
 ghost use Rattle.written.specs.Limits.{narrow};
+ghost use Rattle.written.specs.Lending.{lent_at};
 ghost use Rattle.written.specs.Marks.{full_marked, marks_hold, marks_rest, agree_marked};
 ghost use Rattle.marked.specs.Tests.{as_marked};
-ghost use Rattle.tables.specs.Seen.{seen};
 
 use tables::Tables;
 use written::Counts;
@@ -72,8 +72,9 @@ fn marks_agree(n: Counts, values: &[u32], marks: &[u8]) -> bool
 
 // The tables are full and agree, the marks with the values.
 pub fn agrees(n: Counts, tables: Tables, marks: &[u8]) -> bool
-    ensures { result ≡ (full_marked narrow (seen tables.entry) marks.now
-        && agree_marked narrow n (seen tables.entry) marks.now) }
+    ensures { let t = tables.entry in let u = lent_at t.names.now t.values.now t.starts.now t.literals.now t.occurrence_starts.now t.occurrences.now t.trues.now
+        t.breaks.now t.uncovered.now t.places.now in
+        result ≡ (full_marked narrow u marks.now && agree_marked narrow n u marks.now) }
 {
     marks.len() >= 2048 && agreeing::agrees(n, tables) && marks_agree(n, tables.values, marks)
 }

@@ -10,14 +10,16 @@ ghost use Rattle.written.specs.Flips.{flipped};
 ghost use Rattle.written.specs.Outcomes.{leaves, ten, ten_of, flips_leave, value_asked, flips_for, pin_of, lift_of};
 ghost use Rattle.flipping_lists.specs.Tests.{CanFlipList};
 ghost use Rattle.pins.specs.Tests.{tests_of};
-ghost use Rattle.tables.specs.Seen.{seen};
 
 use tables::Tables;
 use written::{Counts, Reason, Refusal};
 
 // The tests of a pin and of a lift, in their order: 1, 12, 13.
 fn verdict(term: usize, n: Counts, tables: Tables, marks: &[u8]) -> Result<(), Reason>
-    ensures { result ≡ tests_of narrow term n (seen tables.entry) marks.now }
+    ensures { let t = tables.entry in result ≡ tests_of narrow term n
+        (lent_at t.names.now t.values.now t.starts.now t.literals.now t.occurrence_starts.now t.occurrences.now t.trues.now
+        t.breaks.now t.uncovered.now t.places.now)
+        marks.now }
 {
     if !tables.all_full(marks) {
         return Err(Reason::TableTooShort);
@@ -150,8 +152,9 @@ pub fn pin(
 
 // The term's mark cleared, or a refusal that changes nothing.
 pub fn lift(term: usize, n: Counts, tables: Tables, marks: &mut [u8]) -> Result<Counts, Refusal>
-    ensures { leaves result (seen tables.entry) marks.new
-        ≡ lift_of narrow term n (seen tables.entry) marks.old }
+    ensures { let t = tables.entry in let u = lent_at t.names.now t.values.now t.starts.now t.literals.now t.occurrence_starts.now t.occurrences.now t.trues.now
+        t.breaks.now t.uncovered.now t.places.now in
+        leaves result u marks.new ≡ lift_of narrow term n u marks.old }
 {
     verdict(term, n, tables, marks).map_err(|reason| Refusal { reason, counts: n })?;
     marks[term] = 0;

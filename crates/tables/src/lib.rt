@@ -6,6 +6,7 @@
 ghost use Rattle.std.specs.Prelude.{◌≡◌, ℕ, ◌^◌, ◌<◌, get_or};
 ghost use Rattle.written.specs.Lists.{total};
 ghost use Rattle.written.specs.Limits.{narrow};
+ghost use Rattle.written.specs.Lending.{lent_at};
 ghost use Rattle.written.specs.Tables.{are_full};
 ghost use Rattle.written.specs.Marks.{full_marked};
 ghost use Rattle.written.specs.Agreement.{part_of};
@@ -35,11 +36,11 @@ pub struct Tables<'a> {
 }
 
 impl Tables<'_> {
-    ghost use Rattle.tables.specs.Seen.{seen};
-
     // None of the ten is shorter than its full size (reason 1).
     pub fn are_full(self) -> bool
-        ensures { result ≡ are_full narrow (seen self.entry) }
+        ensures { let t = self.entry in result ≡ are_full narrow
+            (lent_at t.names.now t.values.now t.starts.now t.literals.now t.occurrence_starts.now t.occurrences.now t.trues.now
+            t.breaks.now t.uncovered.now t.places.now) }
     {
         (self.names.len() >= 2048)
             & (self.values.len() >= 64)
@@ -55,7 +56,10 @@ impl Tables<'_> {
 
     // With the marks of terms, which are lent beside the ten.
     pub fn all_full(self, marks: &[u8]) -> bool
-        ensures { result ≡ full_marked narrow (seen self.entry) marks.now }
+        ensures { let t = self.entry in result ≡ full_marked narrow
+            (lent_at t.names.now t.values.now t.starts.now t.literals.now t.occurrence_starts.now t.occurrences.now t.trues.now
+            t.breaks.now t.uncovered.now t.places.now)
+            marks.now }
     {
         self.are_full() & (marks.len() >= 2048)
     }
@@ -67,7 +71,7 @@ impl Tables<'_> {
 fn literal_value(words: &[u32], l: u16) -> u32
     ensures { result ≡ value_in words.now l }
 {
-    (words::value(words, usize::from(l / 2)) + u32::from(l % 2)) % 2
+    (words::value(words, usize::from(l / 2)) + usize::from(l % 2) as u32) % 2
 }
 
 // How many literals of a clause are true.
@@ -144,7 +148,7 @@ pub fn enter(list: &mut [u16], places: &mut [u16], number: usize, c: u16) -> usi
 pub fn clear<T: Copy>(table: &mut [T], n: usize, zero: T)
     ensures { table.new ≡ set_below zero n table.old }
 {
-    let last = n.min(table.len());
+    let last = words::least(n, table.len());
     for entry in &mut table[..last] {
         *entry = zero;
     }

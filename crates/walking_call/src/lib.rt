@@ -8,7 +8,6 @@ ghost use Rattle.written.specs.Lending.{lent_at};
 ghost use Rattle.written.specs.Orders.{in_range};
 ghost use Rattle.written.specs.Outcomes.{leaves, walk_of};
 ghost use Rattle.walking_call.specs.Tests.{tests_of};
-ghost use Rattle.tables.specs.Seen.{seen};
 
 use tables::Tables;
 use written::{Counts, Order, Reason, Refusal, Walked};
@@ -26,7 +25,10 @@ fn in_range(order: Order) -> bool
 
 // The tests, in their order: 1, 11, 12.
 fn verdict(order: Order, n: Counts, tables: Tables, marks: &[u8]) -> Result<(), Reason>
-    ensures { result ≡ tests_of narrow order n (seen tables.entry) marks.now }
+    ensures { let t = tables.entry in result ≡ tests_of narrow order n
+        (lent_at t.names.now t.values.now t.starts.now t.literals.now t.occurrence_starts.now t.occurrences.now t.trues.now
+        t.breaks.now t.uncovered.now t.places.now)
+        marks.now }
 {
     if !tables.all_full(marks) {
         return Err(Reason::TableTooShort);

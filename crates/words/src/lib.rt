@@ -80,7 +80,7 @@ pub fn least(a: usize, b: usize) -> usize
 pub fn chosen(words: &[u32], count: u16) -> u32
     ensures { result ≡ trues words.now (32 * count) }
 {
-    let last = words.len().min(usize::from(count));
+    let last = least(usize::from(count), words.len());
     let mut n: u32 = 0;
     for word in &words[..last] {
         n += word.count_ones();

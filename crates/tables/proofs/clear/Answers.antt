@@ -13,4 +13,4 @@ unfolding set_below
 loop-entry-preserved g c = up_more _ _ _ _ _ c.loop-entry.invariant refl
 
 pub returns : goal.returns
-returns g c = front-end _ _ _ _ _ _ c.min-last.ensures c.loop-entry.invariant c.loop-entry.auto.entry-index-end c.loop-entry-test.false
+returns g c = front-end _ _ _ _ _ _ c.least-last.ensures c.loop-entry.invariant c.loop-entry.auto.entry-index-end c.loop-entry-test.false

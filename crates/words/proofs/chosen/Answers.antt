@@ -18,7 +18,7 @@ pub loop-word-preserved : goal.loop-word-preserved
 loop-word-preserved c =
     let k = c.loop-word.word-index in
     let fits = (c.type_inv.words k).fits in
-    let within : k < c.min-last.result = omega (arith, length-take {A = ℕ}) in
+    let within : k < c.least-last.result = omega (arith, length-take {A = ℕ}) in
     rw get_or-take (omega (arith, ones-le 32 _ fits), omega (arith, trues-word c.args.words.now k fits))
 
 pub returns : goal.returns
