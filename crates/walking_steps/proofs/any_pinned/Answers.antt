@@ -1,15 +1,18 @@
--- `walking_steps::any_pinned` meets its contract: some mark looked at is above 0. Assumes nothing.
-use lib.ListN.{take}
-use lib.Dec.{ltb}
-use mathlib.Core.Path.{◌∙◌}
-use Rattle.std.proofs.Common.{rules, tests}
-use Rattle.std.proofs.lemmas.Iterator.{YieldsList-from_slice}
-use Rattle.std.proofs.lemmas.Iterator.Search.{any_from_yields_List}
-use Rattle.walking_steps.proofs.Plain.{any-pinned}
+-- `walking_steps::any_pinned` meets its contract: the marks passed are those looked at. Assumes nothing.
+use mathlib.Core.Path.{refl, ◌∙◌}
+use Prim.Native.Nat.{ℕ, ◌<◌}
+use native.Mathlib.Omega.{arith}
+use Rattle.std.proofs.Common.{length-take}
+use Rattle.walking_steps.specs.Stepping.{any_pinned}
+use Rattle.walking_steps.proofs.Plain.{see-more}
 use Rattle.walking_steps.proofs.any_pinned.Goals as goal
 
-pub returns : goal.returns
-returns c =
+pub loop-mark-init : goal.loop-mark-init
+unfolding any_pinned
+loop-mark-init c = refl
+
+pub loop-mark-preserved : goal.loop-mark-preserved
+loop-mark-preserved c =
     let a = c.args in
-    any_from_yields_List (ltb 0) _ _ _ c.any.ensures.ran (YieldsList-from_slice (take a.n a.marks.now) cc) (λ x b q k. search (rules, tests))
-    ∙ any-pinned a.marks.now a.n c.requires
+    let within : c.loop-mark.mark-index < a.n = omega (arith, length-take {A = ℕ}) in
+    see-more a.marks.now a.n c.loop-mark.mark-index c.loop-mark.any c.loop-mark.invariant within
