@@ -125,10 +125,10 @@ module _ (lim : Limits) (t : List ℕ) (h : Header) (line : ℕ) (k₀ : Count) 
       one-turn s r zero l e = absurd (omega arith)
       one-turn s r (suc n) l e = (n, omega arith, e)
 
-      abbrev pub Follows : Cursor → Result D.Pass Fault → Type 0
-      Follows c' (Ok (P.On q)) = (Long k k' → Underway lim t h line k₀ k' c' q) × (left t c' < left t c)
-      Follows c' (Ok (P.Whole p)) = Counted lim t h line k₀ k' (Ok p)
-      Follows c' (Err f) = Counted lim t h line k₀ k' (Err f)
+      abbrev pub Follows : Cursor → D.Pass → Type 0
+      Follows c' (P.On q) = (Long k k' → Underway lim t h line k₀ k' c' q) × (left t c' < left t c)
+      Follows c' (P.Whole p) = Counted lim t h line k₀ k' (Ok p)
+      Follows c' (P.Refused f) = Counted lim t h line k₀ k' (Err f)
 
       -- where it goes on it is nearer to the text's end
       goes_near : (s s' : Sum) → at_numeral lim h s (number_at t c).numeral ≡ on s' → left t (number_at t c).next < left t c
@@ -146,7 +146,7 @@ module _ (lim : Limits) (t : List ℕ) (h : Header) (line : ℕ) (k₀ : Count) 
             → read_numbers lim t h line ≡ passed v (λ s'. numbers_from turn.0 lim t h (number_at t c).next s')
         read-on e = sym turn.2 ∙ ap (λ (v : Pass). passed v (λ s'. numbers_from turn.0 lim t h (number_at t c).next s')) e
 
-        coming-on : (q : Going) → CountsBy lim h (number_at t c).numeral k g k' (Ok (P.On q)) → Coming lim t h line w₀ (desk_with ns os k') (number_at t c).next q
+        coming-on : (q : Going) → CountsBy lim h (number_at t c).numeral k g k' (P.On q) → Coming lim t h line w₀ (desk_with ns os k') (number_at t c).next q
         coming-on q by =
             let led = by.told w₀ ns os way.sum way.summed in
             record {
@@ -157,8 +157,8 @@ module _ (lim : Limits) (t : List ℕ) (h : Header) (line : ℕ) (k₀ : Count) 
               rest = sym (read-on led.is);
             }
 
-      follows : (r : Result D.Pass Fault) → CountsBy lim h (number_at t c).numeral k g k' r → Follows (number_at t c).next r
-      follows (Ok (P.On q)) by =
+      follows : (r : D.Pass) → CountsBy lim h (number_at t c).numeral k g k' r → Follows (number_at t c).next r
+      follows (P.On q) by =
           let first = by.told can.can.first can.can.names can.can.slots _ (way can.can.first can.can.names can.can.slots first-summed).summed in
           let place = number-gap t c can.closed (no_end lim h _ first.sum (number_at t c).numeral first.is) in (
             λ longer. record {
@@ -170,18 +170,18 @@ module _ (lim : Limits) (t : List ℕ) (h : Header) (line : ℕ) (k₀ : Count) 
             },
             goes_near _ first.sum first.is,
           )
-      follows (Ok (P.Whole p)) by =
+      follows (P.Whole p) by =
           record {
             told = λ w₀ ns os b.
                 let l = by.told w₀ ns os (way w₀ ns os b).sum (way w₀ ns os b).summed in
                 record { draft = l.draft; is = read-on w₀ ns os b l.is; drafted = l.drafted };
           }
-      follows (Err f) by =
+      follows (P.Refused f) by =
           record {
             told = λ w₀ ns os b.
                 let l = by.told w₀ ns os (way w₀ ns os b).sum (way w₀ ns os b).summed in
                 (read-on w₀ ns os b l.0, l.1);
           }
 
-      pub counted-on : {m : Met} (r : Result D.Pass Fault) → m ≡ number_at t c → CountsBy lim h m.numeral k g k' r → Follows m.next r
+      pub counted-on : {m : Met} (r : D.Pass) → m ≡ number_at t c → CountsBy lim h m.numeral k g k' r → Follows m.next r
       counted-on r e by = rw e (follows r (rw e at by))

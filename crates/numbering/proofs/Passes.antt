@@ -37,34 +37,26 @@ use Rattle.reading_lines.proofs.Tokens.{line-turns, text-turns}
 use Rattle.numbering.specs.declared.Going.{Going}
 use Rattle.numbering.specs.declared.Pass as D
 use Rattle.numbering.specs.declared.Pass.TheVariants as P
-use Rattle.numbering.specs.Passes.{going, turned_on, pass_of, ZeroEnd, zero_end, kept_by, after_zero, after_numbers}
+use Rattle.numbering.specs.Passes.{going, pass_of, ZeroEnd, zero_end, kept_by, after_zero, after_numbers}
 use Rattle.numbering.specs.Counting.{Count, count, desk_with, Summed, CanCount, Passed, CountsBy}
-
--- ---- a turn of the open clause in the code, by what it gave
-
-pub turn-failed : {r : Result D.Pass Fault} {f : Fault} {next : Result Next Fault} → r ≡ Err f → next ≡ Err f → (n : ℕ) → r ≡ pass_of next n
-turn-failed told e n = told ∙ ap (λ (x : Result Next Fault). pass_of x n) (sym e)
-
-pub turn-led : {q : D.Pass} {x : Next} {next : Result Next Fault} (n : ℕ) → q ≡ turned_on x n → next ≡ Ok x → Ok q ≡ pass_of next n
-turn-led n told e = ap Ok told ∙ ap (λ (x : Result Next Fault). pass_of x n) (sym e)
 
 -- ---- a clause's end in the code, by each way through its tests
 
 module _ (lim : Limits) (h : Header) (g : Going) (n : ℕ) (ss : List ℕ) where
-  pub past-count : h.clauses ≤ g.ended → {f : Fault} → f ≡ fault_at n ClauseCount → zero_end (Err f) ss ≡ after_zero lim h g n ss
+  pub past-count : h.clauses ≤ g.ended → {f : Fault} → f ≡ fault_at n ClauseCount → zero_end (P.Refused f) ss ≡ after_zero lim h g n ss
   unfolding after_zero
-  past-count full told = ap (λ (f : Fault). zero_end (Err f) ss) told ∙ sym (rw (le-leb h.clauses g.ended full) refl)
+  past-count full told = ap (λ (f : Fault). zero_end (P.Refused f) ss) told ∙ sym (rw (le-leb h.clauses g.ended full) refl)
 
   module _ (few : g.ended < h.clauses) where
-    pub of-dropped : g.dropped ≡ true → zero_end (Ok (P.On (going g.place false (g.ended + 1)))) ss ≡ after_zero lim h g n ss
+    pub of-dropped : g.dropped ≡ true → zero_end (P.On (going g.place false (g.ended + 1))) ss ≡ after_zero lim h g n ss
     unfolding after_zero
     of-dropped d = sym (rw (lt-leb h.clauses g.ended few, d, add-one g.ended) refl)
 
-    pub of-line : g.dropped ≡ false → {next : Result Next Fault} {ss' : List ℕ} → line_end next ss' ≡ after_line lim g.place n ss → {r : Result D.Pass Fault} → r ≡ pass_of next (g.ended + 1)
+    pub of-line : g.dropped ≡ false → {next : Result Next Fault} {ss' : List ℕ} → line_end next ss' ≡ after_line lim g.place n ss → {r : D.Pass} → r ≡ pass_of next (g.ended + 1)
         → zero_end r ss' ≡ after_zero lim h g n ss
     unfolding after_zero
     of-line d {next} {ss'} e told =
-        ap (λ (r : Result D.Pass Fault). zero_end r ss') told ∙ ap (λ (l : LineEnd). kept_by l (g.ended + 1)) e
+        ap (λ (r : D.Pass). zero_end r ss') told ∙ ap (λ (l : LineEnd). kept_by l (g.ended + 1)) e
         ∙ sym (rw (lt-leb h.clauses g.ended few, d, add-one g.ended) refl)
 
 -- ---- a number's turn
@@ -84,7 +76,7 @@ module _ (lim : Limits) (h : Header) (few : h.variables ≤ lim.terms) (small : 
   module _ (w₀ w : Desk) (g : Going) (s : Sum) (k : Summed lim h w₀ w g s) (x : Signed) (w' : Desk) where
     -- the code goes on
     onward : (g' : Going) (s' : Sum) → at_number lim h s x ≡ on s' → DraftedWith by_number lim w₀ w' g'.place s'.draft → g'.dropped ≡ s'.is_dropped → g'.ended ≡ s'.ended
-        → Passed lim h w₀ w' (at_number lim h s x) (Ok (P.On g'))
+        → Passed lim h w₀ w' (at_number lim h s x) (P.On g')
     onward g' s' e drafted dropped ended =
         record { sum = s'; is = e; summed = record { drafted = drafted; dropped-is = dropped; ended_is = ended; sums = next-sums s k.sums x s' e } }
 
@@ -99,7 +91,7 @@ module _ (lim : Limits) (h : Header) (few : h.variables ≤ lim.terms) (small : 
   -- ---- a number
 
   module _ (x : Signed) (t : Count) (g : Going) where
-    pub above_counts : h.variables < x.number → {f : Fault} → f ≡ fault_at x.line PastHeader → CountsBy lim h (Number x) t g t (Err f)
+    pub above_counts : h.variables < x.number → {f : Fault} → f ≡ fault_at x.line PastHeader → CountsBy lim h (Number x) t g t (P.Refused f)
     unfolding at_numeral
     above_counts high told = record { told = λ w₀ ns os s k. rw told (number_above lim h s x high, k.drafted.beyond) }
 
@@ -125,7 +117,7 @@ module _ (lim : Limits) (h : Header) (few : h.variables ≤ lim.terms) (small : 
         (zero ∙ zero-line lim h s x.line left (sym k.dropped-is ∙ d) ∙ ap (λ (n : ℕ). turned (suc n) (at_line_end lim s.draft x.line s.draft.line)) (sym k.ended_is))
         e.next (line-turns by_number lim w g.place x.line w₀ s.draft k.drafted)))
 
-    pub zero-counts : x.number ≡ 0 → {r : Result D.Pass Fault} {ss : List ℕ} → zero_end r ss ≡ after_zero lim h g x.line t.starts
+    pub zero-counts : x.number ≡ 0 → {r : D.Pass} {ss : List ℕ} → zero_end r ss ≡ after_zero lim h g x.line t.starts
         → CountsBy lim h (Number x) t g (count ss t.literals t.stamps) r
     unfolding at_numeral
     zero-counts none e = record { told = λ w₀ ns os s k. subst (Ends w₀ ns os s) (sym e) (zero-passes none w₀ ns os s k) }
@@ -135,7 +127,7 @@ module _ (lim : Limits) (h : Header) (few : h.variables ≤ lim.terms) (small : 
       is : x.number ≡ suc (x.number - 1)
       is = omega (arith, some)
 
-      pub dropped-counts : g.dropped ≡ true → CountsBy lim h (Number x) t g t (Ok (P.On g))
+      pub dropped-counts : g.dropped ≡ true → CountsBy lim h (Number x) t g t (P.On g)
       unfolding at_numeral
       dropped-counts d =
           record {
@@ -165,7 +157,7 @@ module _ (lim : Limits) (h : Header) (few : h.variables ≤ lim.terms) (small : 
 
       pub literal-counts : g.dropped ≡ false → {r : Result Taken Reason} {ls ms : List ℕ} {next : Result Next Fault}
           → placing r ls ms ≡ placed lim t.literals t.stamps g.place.from g.place.held (x.number - 1) x.negated
-          → next ≡ after_literal r g.place x.line → {q : Result D.Pass Fault} → q ≡ pass_of next g.ended → CountsBy lim h (Number x) t g (count t.starts ls ms) q
+          → next ≡ after_literal r g.place x.line → {q : D.Pass} → q ≡ pass_of next g.ended → CountsBy lim h (Number x) t g (count t.starts ls ms) q
       unfolding at_numeral
       literal-counts d {r} {ls} {ms} {next} e a b =
           record {
@@ -190,12 +182,12 @@ module _ (lim : Limits) (h : Header) (few : h.variables ≤ lim.terms) (small : 
   ends-pass w₀ w end u q (Err f) l = (q ∙ ap (turned 0) l.0, l.1)
 
   module _ (t : Count) (g : Going) where
-    pub bad-counts : (n : ℕ) {f : Fault} → f ≡ fault_at n ByteNotAllowed → CountsBy lim h (Bad n) t g t (Err f)
+    pub bad-counts : (n : ℕ) {f : Fault} → f ≡ fault_at n ByteNotAllowed → CountsBy lim h (Bad n) t g t (P.Refused f)
     unfolding at_numeral
     bad-counts n told = record { told = λ w₀ ns os s k. rw told (refl, k.drafted.beyond) }
 
     module _ (w₀ : Desk) (ns os : List ℕ) (s : Sum) (k : Summed lim h w₀ (desk_with ns os t) g s) where
-      abbrev Finishes : Result D.Pass Fault → Type 0
+      abbrev Finishes : D.Pass → Type 0
       Finishes r = Passed lim h w₀ (desk_with ns os t) (to (at_numbers_end h s)) r
 
       -- the three tests that a clause is open or that clauses are too few
@@ -203,7 +195,7 @@ module _ (lim : Limits) (h : Header) (few : h.variables ≤ lim.terms) (small : 
           → (is_open s || ltb s.ended h.clauses) ≡ ((a || b) || e)
       tests p q r = λ i. (p i || q i) || r i
 
-      unfinished : (is_open s || ltb s.ended h.clauses) ≡ true → Finishes (Err (fault ClauseCount))
+      unfinished : (is_open s || ltb s.ended h.clauses) ≡ true → Finishes (P.Refused (fault ClauseCount))
       unfolding at_numbers_end
       unfinished e = (rw e refl, k.drafted.beyond)
 
@@ -229,6 +221,6 @@ module _ (lim : Limits) (h : Header) (few : h.variables ≤ lim.terms) (small : 
           (λ less. unfinished (tests kept bare (ap (λ (n : ℕ). ltb n h.clauses) (sym k.ended_is) ∙ less)))
           (λ all. finished (tests kept bare (ap (λ (n : ℕ). ltb n h.clauses) (sym k.ended_is) ∙ all)))))
 
-    pub end-counts : {r : Result D.Pass Fault} → r ≡ after_numbers h g → CountsBy lim h End t g t r
+    pub end-counts : {r : D.Pass} → r ≡ after_numbers h g → CountsBy lim h End t g t r
     unfolding at_numeral
     end-counts told = record { told = λ w₀ ns os s k. rw told (end-passes w₀ ns os s k) }

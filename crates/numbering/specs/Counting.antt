@@ -57,13 +57,13 @@ pub record Onward (u : Pass) (lim : Limits) (h : Header) (w₀ w : Desk) (g : Go
   pub summed : Summed lim h w₀ w g sum
 
 -- where the code goes is the written pass u
-abbrev pub Passed : Limits → Header → Desk → Desk → Pass → Result D.Pass Fault → Type 0
-Passed lim h w₀ w u (Ok (P.On g)) = Onward u lim h w₀ w g
-Passed lim h w₀ w u (Ok (P.Whole p)) = LeadsWith u (λ d. to (whole d)) by_number lim w₀ w p
-Passed lim h w₀ w u (Err f) = (u ≡ to (refused f)) × BeyondWith by_number lim w₀ w
+abbrev pub Passed : Limits → Header → Desk → Desk → Pass → D.Pass → Type 0
+Passed lim h w₀ w u (P.On g) = Onward u lim h w₀ w g
+Passed lim h w₀ w u (P.Whole p) = LeadsWith u (λ d. to (whole d)) by_number lim w₀ w p
+Passed lim h w₀ w u (P.Refused f) = (u ≡ to (refused f)) × BeyondWith by_number lim w₀ w
 
 -- whatever the tables held, what was met has done to it what is written
-pub record CountsBy (lim : Limits) (h : Header) (k : Numeral) (t : Count) (g : Going) (t' : Count) (r : Result D.Pass Fault) : Type 0 where
+pub record CountsBy (lim : Limits) (h : Header) (k : Numeral) (t : Count) (g : Going) (t' : Count) (r : D.Pass) : Type 0 where
   pub told : (w₀ : Desk) (ns os : List ℕ) (s : Sum) → Summed lim h w₀ (desk_with ns os t) g s → Passed lim h w₀ (desk_with ns os t') (at_numeral lim h s k) r
 
 -- the code ends with the reading u

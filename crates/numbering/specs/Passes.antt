@@ -21,21 +21,18 @@ abbrev pub outset : Header → Going
 outset h = going (place_at h.variables 0 0 0) false 0
 
 -- after a turn of the open clause, when n have ended
-abbrev pub turned_on : Next → ℕ → Pass
-turned_on (N.Goes p) n = P.On (going p false n)
-turned_on (N.Drops p) n = P.On (going p true n)
-turned_on (N.Whole p) n = P.Whole p
-
-abbrev pub pass_of : Result Next Fault → ℕ → Result Pass Fault
-pass_of (Ok r) n = Ok (turned_on r n)
-pass_of (Err f) n = Err f
+abbrev pub pass_of : Result Next Fault → ℕ → Pass
+pass_of (Ok (N.Goes p)) n = P.On (going p false n)
+pass_of (Ok (N.Drops p)) n = P.On (going p true n)
+pass_of (Ok (N.Whole p)) n = P.Whole p
+pass_of (Err f) n = P.Refused f
 
 -- what a clause's end leads to, and the starts that it leaves
 pub record ZeroEnd : Type 0 where
-  pub pass : Result Pass Fault
+  pub pass : Pass
   pub starts : List ℕ
 
-abbrev pub zero_end : Result Pass Fault → List ℕ → ZeroEnd
+abbrev pub zero_end : Pass → List ℕ → ZeroEnd
 zero_end r ss = record { pass = r; starts = ss }
 
 abbrev pub kept_by : LineEnd → ℕ → ZeroEnd
@@ -43,14 +40,14 @@ kept_by e n = zero_end (pass_of e.next n) e.starts
 
 unfoldable pub after_zero : Limits → Header → Going → ℕ → List ℕ → ZeroEnd
 after_zero lim h g n ss =
-    cond (leb h.clauses g.ended) (zero_end (Err (fault_at n ClauseCount)) ss)
-    (cond g.dropped (zero_end (Ok (P.On (going g.place false (suc g.ended)))) ss)
+    cond (leb h.clauses g.ended) (zero_end (P.Refused (fault_at n ClauseCount)) ss)
+    (cond g.dropped (zero_end (P.On (going g.place false (suc g.ended))) ss)
     (kept_by (after_line lim g.place n ss) (suc g.ended)))
 
 -- the text's end
-unfoldable pub after_numbers : Header → Going → Result Pass Fault
+unfoldable pub after_numbers : Header → Going → Pass
 after_numbers h g =
-    cond g.dropped (Err (fault ClauseCount))
-    (cond (not (eqb g.place.held g.place.from)) (Err (fault ClauseCount))
-    (cond (ltb g.ended h.clauses) (Err (fault ClauseCount))
+    cond g.dropped (P.Refused (fault ClauseCount))
+    (cond (not (eqb g.place.held g.place.from)) (P.Refused (fault ClauseCount))
+    (cond (ltb g.ended h.clauses) (P.Refused (fault ClauseCount))
     (pass_of (after_text g.place) 0)))

@@ -9,7 +9,7 @@ ghost use Rattle.written.specs.Tables.{over};
 ghost use Rattle.written.specs.Numbered.{name_for, names_to};
 ghost use Rattle.written.specs.declared.Numeral.TheVariants.{Number};
 ghost use Rattle.laws.proofs.NumeralSteps.{line_in};
-ghost use Rattle.numbering.specs.Passes.{turned_on, zero_end, after_zero, after_numbers};
+ghost use Rattle.numbering.specs.Passes.{pass_of, zero_end, after_zero, after_numbers};
 ghost use Rattle.numbering.specs.Counting.{count_at, CanCount, CountsBy, CanBegin, Counted, CanDraw, Drawn};
 
 use reading_lines::{Next, Place, fault_at};
@@ -24,11 +24,13 @@ pub struct Going {
     pub dropped: bool,
 }
 
-// Where a number leads that is no fault: on, or to the text's end with a clause kept.
+// Where a number leads: on, to the text's end with a clause kept, or to a fault. No Result or ControlFlow around the others: of either the tags
+// are put together anew at each number, and a numbered file takes 1.1 of the instructions of its like in our own form, where 1 is promised.
 #[derive(Clone, Copy)]
 pub enum Pass {
     On(Going),
     Whole(Place),
+    Refused(Fault),
 }
 
 // ---- the names
@@ -61,39 +63,42 @@ fn put_names(names: &mut [u64], n: usize)
 // ---- the numbers
 
 // After a turn of the open clause, when so many have ended.
-fn turned(next: Next, ended: u64) -> Pass
-    ensures { result ≡ turned_on next ended }
+fn turned(next: Result<Next, Fault>, ended: u64) -> Pass
+    ensures { result ≡ pass_of next ended }
 {
-    let (place, dropped) = match next {
-        Next::Goes(place) => (place, false),
-        Next::Drops(place) => (place, true),
-        Next::Whole(place) => return Pass::Whole(place),
-    };
-    Pass::On(Going {
-        place,
-        dropped,
-        ended,
-    })
+    match next {
+        Ok(Next::Goes(place)) => Pass::On(Going {
+            place,
+            dropped: false,
+            ended,
+        }),
+        Ok(Next::Drops(place)) => Pass::On(Going {
+            place,
+            dropped: true,
+            ended,
+        }),
+        Ok(Next::Whole(place)) => Pass::Whole(place),
+        Err(fault) => Pass::Refused(fault),
+    }
 }
 
 // A clause's end: past the header's count, of a dropped clause, of 0 alone, or one that is kept if there is room.
-fn at_zero(starts: &mut [u16], h: Header, g: Going, line: usize) -> Result<Pass, Fault>
+fn at_zero(starts: &mut [u16], h: Header, g: Going, line: usize) -> Pass
     requires { (line < 2 ^ 32) × (g.place.held < 2 ^ 16) × (narrow.clauses < length starts.old) }
     ensures { zero_end result starts.new ≡ after_zero narrow h g line starts.old }
 {
     if h.clauses <= g.ended {
-        return Err(fault_at(Reason::ClauseCount, line));
+        return Pass::Refused(fault_at(Reason::ClauseCount, line));
     }
-    let ended = g.ended + 1;
+    let counted = g.ended + 1;
     if g.dropped {
-        return Ok(Pass::On(Going {
+        return Pass::On(Going {
             dropped: false,
-            ended,
+            ended: counted,
             ..g
-        }));
+        });
     }
-    let next = reading_lines::at_line_end(starts, g.place, line)?;
-    Ok(turned(next, ended))
+    turned(reading_lines::at_line_end(starts, g.place, line), counted)
 }
 
 // A number: above the header's, a clause's end, of a dropped clause, or a variable's literal.
@@ -104,44 +109,42 @@ fn at_number(
     h: Header,
     g: Going,
     x: Signed,
-) -> Result<Pass, Fault>
+) -> Pass
     requires { CanCount narrow h (count_at starts.old literals.old stamps.old) g × (x.line < 2 ^ 32) }
     ensures { CountsBy narrow h (Number x) (count_at starts.old literals.old stamps.old) g (count_at starts.new literals.new stamps.new) result }
 {
     let line = x.line;
     let number = x.number;
     if h.variables < number {
-        return Err(fault_at(Reason::PastHeader, line));
+        return Pass::Refused(fault_at(Reason::PastHeader, line));
     }
     if number == 0 {
         return at_zero(starts, h, g, line);
     }
     if g.dropped {
-        return Ok(Pass::On(g));
+        return Pass::On(g);
     }
     let term = (number - 1) as usize;
     let p = g.place;
     let taken = reading_literal::place(literals, stamps, p.from, p.held, term, x.negated);
-    let next = reading_lines::after_literal(taken, p, line)?;
-    Ok(turned(next, g.ended))
+    turned(reading_lines::after_literal(taken, p, line), g.ended)
 }
 
 // The text's end: a clause is open, clauses are too few, none is kept, or the file is whole.
-fn at_numbers_end(h: Header, g: Going) -> Result<Pass, Fault>
+fn at_numbers_end(h: Header, g: Going) -> Pass
     ensures { result ≡ after_numbers h g }
 {
     let p = g.place;
     if g.dropped {
-        return Err(fault_at(Reason::ClauseCount, 0));
+        return Pass::Refused(fault_at(Reason::ClauseCount, 0));
     }
     if p.held != p.from {
-        return Err(fault_at(Reason::ClauseCount, 0));
+        return Pass::Refused(fault_at(Reason::ClauseCount, 0));
     }
     if g.ended < h.clauses {
-        return Err(fault_at(Reason::ClauseCount, 0));
+        return Pass::Refused(fault_at(Reason::ClauseCount, 0));
     }
-    let next = reading_lines::at_text_end(p)?;
-    Ok(turned(next, 0))
+    turned(reading_lines::at_text_end(p), 0)
 }
 
 // What is met, and where it leads.
@@ -152,13 +155,13 @@ fn at_numeral(
     h: Header,
     g: Going,
     k: Numeral,
-) -> Result<Pass, Fault>
+) -> Pass
     requires { CanCount narrow h (count_at starts.old literals.old stamps.old) g × (line_in k < 2 ^ 32) }
     ensures { CountsBy narrow h k (count_at starts.old literals.old stamps.old) g (count_at starts.new literals.new stamps.new) result }
 {
     match k {
         Numeral::Number(x) => at_number(starts, literals, stamps, h, g, x),
-        Numeral::Bad(n) => Err(fault_at(Reason::ByteNotAllowed, n)),
+        Numeral::Bad(n) => Pass::Refused(fault_at(Reason::ByteNotAllowed, n)),
         Numeral::End => at_numbers_end(h, g),
     }
 }
@@ -189,12 +192,13 @@ fn numbers(
     // Not a for: what is met says whether another follows.
     loop {
         let m = numerals::number_at(text, c);
-        match at_numeral(starts, literals, stamps, h, g, m.numeral)? {
+        match at_numeral(starts, literals, stamps, h, g, m.numeral) {
             Pass::On(q) => {
                 g = q;
                 c = m.next;
             }
             Pass::Whole(p) => return Ok(p),
+            Pass::Refused(fault) => return Err(fault),
         }
     }
 }

@@ -143,12 +143,14 @@ fn is_whole(text: &[u8], from: usize, d: Digits, negated: bool) -> bool
     ensures { result ≡ is_whole text.now from d negated }
 {
     let n = d.end - from;
-    let form = if d.number == 0 {
+    if n > 10 || !scan::is_gap(text[d.end]) {
+        return false;
+    }
+    if d.number == 0 {
         !negated && n == 1
     } else {
         text[from] != b'0'
-    };
-    form && n <= 10 && scan::is_gap(text[d.end])
+    }
 }
 
 // Where a word's digits begin.

@@ -57,20 +57,20 @@ pub fn after_literal(t: Result<Taken, Reason>, p: Place, line: usize) -> Result<
     requires { (line < 2 ^ 32) × (p.terms < 2 ^ 16) × (p.held < 2 ^ 16) }
     ensures { result ≡ after_literal t p line }
 {
-    match t {
-        Ok(Taken::Held) => Ok(Next::Goes(Place {
+    let next = match t.map_err(|reason| fault_at(reason, line))? {
+        Taken::Held => Next::Goes(Place {
             held: p.held + 1,
             ..p
-        })),
-        Ok(Taken::Grown) => Ok(Next::Goes(Place {
+        }),
+        Taken::Grown => Next::Goes(Place {
             terms: p.terms + 1,
             held: p.held + 1,
             ..p
-        })),
-        Ok(Taken::Skipped) => Ok(Next::Goes(p)),
-        Ok(Taken::Dropped) => Ok(Next::Drops(given_back(p))),
-        Err(reason) => Err(fault_at(reason, line)),
-    }
+        }),
+        Taken::Skipped => Next::Goes(p),
+        Taken::Dropped => Next::Drops(given_back(p)),
+    };
+    Ok(next)
 }
 
 // A line with literals is kept as a clause, if there is room for one; a line without is refused.
@@ -158,16 +158,17 @@ pub fn draft(
     // Not a for: what a token does says where the next one is read.
     loop {
         let s = c.next(text);
-        match at_token(names, starts, literals, stamps, slots, p, s.token)? {
-            Next::Goes(q) => {
+        match at_token(names, starts, literals, stamps, slots, p, s.token) {
+            Ok(Next::Goes(q)) => {
                 p = q;
                 c = s.next;
             }
-            Next::Drops(q) => {
+            Ok(Next::Drops(q)) => {
                 p = q;
                 c = s.next.over(text);
             }
-            Next::Whole(q) => return Ok(q),
+            Ok(Next::Whole(q)) => return Ok(q),
+            Err(fault) => return Err(fault),
         }
     }
 }

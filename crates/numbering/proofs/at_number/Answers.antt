@@ -1,10 +1,7 @@
 -- `numbering::at_number` meets its contract: each way out by the law of its case. Assumes nothing.
-use mathlib.Core.Path.{ap, ◌∙◌}
 use native.Mathlib.Omega.{arith}
-use Rattle.std.proofs.Common.{Err}
-use Rattle.std.proofs.lemmas.Result.{err_from_is_err_and}
 use Rattle.written.specs.Limits.{narrow}
-use Rattle.numbering.proofs.Passes.{turn-failed, turn-led, above_counts, zero-counts, dropped-counts, literal-counts}
+use Rattle.numbering.proofs.Passes.{above_counts, zero-counts, dropped-counts, literal-counts}
 use Rattle.numbering.proofs.at_number.Goals as goal
 
 pub returns-then-h-number : goal.returns-then-h-number
@@ -22,15 +19,8 @@ returns-then-g c =
     let pre = c.requires in
     dropped-counts narrow _ pre.0.small (omega arith) _ _ _ c.if-h-number.false c.if-number-eq0.false c.if-g.true
 
-pub returns-in_err-next : goal.returns-in_err-next
-returns-in_err-next c =
-    let pre = c.requires in
-    let p = err_from_is_err_and c.from_residual.result c.from_residual.ensures.1 in
-    literal-counts narrow _ pre.0.small (omega arith) _ _ _ c.if-h-number.false c.if-number-eq0.false
-    c.if-g.false c.place-taken.ensures c.after_literal.ensures (turn-failed (p.1 ∙ ap Err p.2) c.in_err-next.was _)
-
 pub returns : goal.returns
 returns c =
     let pre = c.requires in
     literal-counts narrow _ pre.0.small (omega arith) _ _ _ c.if-h-number.false c.if-number-eq0.false
-    c.if-g.false c.place-taken.ensures c.after_literal.ensures (turn-led _ c.turned.ensures c.in_ok-next.was)
+    c.if-g.false c.place-taken.ensures c.after_literal.ensures c.turned.ensures

@@ -1,6 +1,5 @@
 -- `numbering::numbers` meets its contract: what is left of the numbers makes the whole reading. Assumes nothing.
 use native.Mathlib.Omega.{arith}
-use Rattle.std.proofs.lemmas.Result.{err_from_is_err_and}
 use Rattle.written.specs.Limits.{narrow}
 use Rattle.numbering.proofs.Loop.{begun-way, count-can, at_gap, met-low, counted-on}
 use Rattle.numbering.proofs.numbers.Goals as goal
@@ -20,20 +19,18 @@ at_numeral-requires c =
 pub loop-q-smaller : goal.loop-q-smaller
 loop-q-smaller c =
     let r = counted-on narrow _ _ _ _ c.requires _ _ _ c.loop-q.invariant _ _ c.number_at-m.ensures c.at_numeral.ensures in
-    (rw (c.in_ok-q.was, c.in-On.is) at r).1
+    (rw c.in-On.is at r).1
 
 pub loop-q-preserved : goal.loop-q-preserved
 loop-q-preserved c =
     let k = c.at_numeral.auto in
     let r = counted-on narrow _ _ _ _ c.requires _ _ _ c.loop-q.invariant _ _ c.number_at-m.ensures c.at_numeral.ensures in
-    (rw (c.in_ok-q.was, c.in-On.is) at r).0 (record { starts-long = k.starts; literals-long = k.literals; stamps-long = k.stamps })
+    (rw c.in-On.is at r).0 (record { starts-long = k.starts; literals-long = k.literals; stamps-long = k.stamps })
 
 pub returns-in-Whole : goal.returns-in-Whole
 returns-in-Whole c =
-    rw (c.in_ok-q.was, c.in-Whole.is) at (counted-on narrow _ _ _ _ c.requires _ _ _ c.loop-q.invariant _ _ c.number_at-m.ensures c.at_numeral.ensures)
+    rw c.in-Whole.is at (counted-on narrow _ _ _ _ c.requires _ _ _ c.loop-q.invariant _ _ c.number_at-m.ensures c.at_numeral.ensures)
 
-pub returns-in_err-q : goal.returns-in_err-q
-returns-in_err-q c =
-    let r = counted-on narrow _ _ _ _ c.requires _ _ _ c.loop-q.invariant _ _ c.number_at-m.ensures c.at_numeral.ensures in
-    let p = err_from_is_err_and c.from_residual.result c.from_residual.ensures.1 in
-    rw (p.1, p.2) (rw c.in_err-q.was at r)
+pub returns-in-Refused : goal.returns-in-Refused
+returns-in-Refused c =
+    rw c.in-Refused.is at (counted-on narrow _ _ _ _ c.requires _ _ _ c.loop-q.invariant _ _ c.number_at-m.ensures c.at_numeral.ensures)

@@ -1,6 +1,5 @@
 -- `reading_lines::draft` meets its contract: the loop goes on with a draft under way, and ends with the written reading. Assumes nothing.
 use native.Mathlib.Omega.{arith}
-use Rattle.std.proofs.lemmas.Result.{err_from_is_err_and}
 use Rattle.written.specs.Limits.{narrow}
 use Rattle.names.specs.Finding.{homes}
 use Rattle.reading_lines.proofs.Loop.{begun, going, line_low, turned_on}
@@ -14,36 +13,33 @@ at_token-requires c =
     let u = c.loop-q.invariant in
     (going homes narrow _ _ _ _ _ u, rw c.next-s.ensures (omega (arith, line_low homes narrow _ _ _ _ _ u, c.requires.short)))
 
-pub loop-q-smaller-in-Goes : goal.loop-q-smaller-in-Goes
-loop-q-smaller-in-Goes c =
+pub loop-q-smaller-in-Ok-Goes : goal.loop-q-smaller-in-Ok-Goes
+loop-q-smaller-in-Ok-Goes c =
     let r = turned_on homes narrow _ _ _ _ _ c.loop-q.invariant _ _ _ c.next-s.ensures c.at_token.ensures in
-    (rw (c.in_ok-q.was, c.in-Goes.is) at r).1
+    (rw (c.in-Ok-Goes.is, c.in-Ok-Goes.field-0-is) at r).1
 
-pub loop-q-preserved-in-Goes : goal.loop-q-preserved-in-Goes
-loop-q-preserved-in-Goes c =
+pub loop-q-preserved-in-Ok-Goes : goal.loop-q-preserved-in-Ok-Goes
+loop-q-preserved-in-Ok-Goes c =
     let k = c.at_token.auto in
     let r = turned_on homes narrow _ _ _ _ _ c.loop-q.invariant _ _ _ c.next-s.ensures c.at_token.ensures in
-    (rw (c.in_ok-q.was, c.in-Goes.is) at r).0
+    (rw (c.in-Ok-Goes.is, c.in-Ok-Goes.field-0-is) at r).0
     (record { names-long = k.names; starts-long = k.starts; literals-long = k.literals; stamps-long = k.stamps; slots-long = k.slots })
 
 pub loop-q-smaller : goal.loop-q-smaller
 loop-q-smaller c =
     let r = turned_on homes narrow _ _ _ _ _ c.loop-q.invariant _ _ _ c.next-s.ensures c.at_token.ensures in
-    rw c.over-c.ensures (rw (c.in_ok-q.was, c.in-Drops.is) at r).1
+    rw c.over-c.ensures (rw (c.in-Ok-Drops.is, c.in-Ok-Drops.field-0-is) at r).1
 
 pub loop-q-preserved : goal.loop-q-preserved
 loop-q-preserved c =
     let k = c.at_token.auto in
     let r = turned_on homes narrow _ _ _ _ _ c.loop-q.invariant _ _ _ c.next-s.ensures c.at_token.ensures in
     rw c.over-c.ensures
-    ((rw (c.in_ok-q.was, c.in-Drops.is) at r).0
+    ((rw (c.in-Ok-Drops.is, c.in-Ok-Drops.field-0-is) at r).0
     (record { names-long = k.names; starts-long = k.starts; literals-long = k.literals; stamps-long = k.stamps; slots-long = k.slots }))
 
-pub returns-in-Whole : goal.returns-in-Whole
-returns-in-Whole c = rw (c.in_ok-q.was, c.in-Whole.is) at (turned_on homes narrow _ _ _ _ _ c.loop-q.invariant _ _ _ c.next-s.ensures c.at_token.ensures)
+pub returns-in-Ok-Whole : goal.returns-in-Ok-Whole
+returns-in-Ok-Whole c = rw (c.in-Ok-Whole.is, c.in-Ok-Whole.field-0-is) at (turned_on homes narrow _ _ _ _ _ c.loop-q.invariant _ _ _ c.next-s.ensures c.at_token.ensures)
 
-pub returns-in_err-q : goal.returns-in_err-q
-returns-in_err-q c =
-    let r = turned_on homes narrow _ _ _ _ _ c.loop-q.invariant _ _ _ c.next-s.ensures c.at_token.ensures in
-    let p = err_from_is_err_and c.from_residual.result c.from_residual.ensures.1 in
-    rw (p.1, p.2) (rw c.in_err-q.was at r)
+pub returns-in-Err : goal.returns-in-Err
+returns-in-Err c = rw c.in-Err.is at (turned_on homes narrow _ _ _ _ _ c.loop-q.invariant _ _ _ c.next-s.ensures c.at_token.ensures)
