@@ -1,7 +1,10 @@
 -- Pieces put into a page one after another: what is left to put gives what the whole gives. Assumes nothing.
-use Prim.Native.Nat.{ℕ}
-use mathlib.Core.Path.{◌≡◌, sym, ◌∙◌}
+use Prim.Native.Nat.{ℕ, ◌+◌, ◌<◌}
+use mathlib.Core.Path.{◌≡◌, refl, sym, ◌∙◌}
 use mathlib.Core.List.{List, [], ◌∷◌, ◌++◌, flatten, foldl, append_assoc, append-nil}
+use native.Mathlib.Numerals.{add-one}
+use lib.ListN.{length, get_or, drop}
+use lib.Seq.{drop-cons}
 use Rattle.pages.specs.Pages.{Page, page, put, CanPut}
 use Rattle.pages.proofs.Putting.{put-none, fits-first, fits_next, put_both}
 
@@ -49,6 +52,10 @@ ended {q = q} l = sym (put-none q) ∙ l.rest
 
 pub over : {xs : List ℕ} {asked q : Page} → xs ≡ [] → Left (xs ∷ []) asked q → q ≡ asked
 over {q = q} e l = let m = rw e at l in ended (onward m (sym (put-none q)))
+
+-- a piece byte by byte
+pub next-byte : (bytes : List ℕ) (i : ℕ) → i < length bytes → drop i bytes ≡ (get_or bytes i 0 ∷ []) ++ drop (i + 1) bytes
+next-byte bytes i h = rw (add-one, drop-cons bytes i 0) refl
 
 -- what a page leaves in its buffer, and how many bytes it put
 pub closed : {m n : ℕ} {xs ys : List ℕ} {asked : Page} → n ≡ m → ys ≡ xs → page m xs ≡ asked → page n ys ≡ asked

@@ -1,11 +1,10 @@
--- Bytes put into a page: nothing, one list after another, one byte, a part stored over; the buffer keeps its length. Assumes nothing.
-use Prim.Native.Nat.{ℕ, ◌+◌, ◌-◌}
+-- Bytes put into a page: nothing, one list after another, one byte; the buffer keeps its length. Assumes nothing.
+use Prim.Native.Nat.{ℕ, ◌+◌}
 use mathlib.Core.Path.{◌≡◌, refl, ap, ap₂, sym, ◌∙◌}
 use mathlib.Core.List.{List, [], ◌∷◌, ◌++◌, append_assoc, append-nil}
 use native.Mathlib.Numerals.{add-one}
 use native.Mathlib.Omega.{arith}
 use lib.ListN.{length, take, drop, set, length-append, length-drop, take-append-drop}
-use borrow.Rule.Slice.PartMut.{put_mid}
 use lib.Seq.{length-take-le, append_snoc, set_split, take_at, drop-append-add, drop-drop}
 use Rattle.pages.specs.Pages.{Page, page, put, CanPut}
 
@@ -24,14 +23,6 @@ unfolding put
 put_byte x at b h =
     same-page refl (set_split b at x (omega (arith, h.room)) ∙ sym (append_snoc (take at b) x _)
     ∙ ap (λ (k : ℕ). (take at b ++ x ∷ []) ++ drop k b) (sym (add-one at)))
-
--- a part of the buffer stored over is what is put there
-pub put_part : (xs : List ℕ) (at : ℕ) (b : List ℕ) → page (at + length xs) (put_mid at (at + length xs - at) b xs) ≡ put xs (page at b)
-unfolding put
-put_part xs at b =
-    let size : at + length xs - at ≡ length xs = omega arith in
-    same-page refl (sym (append_assoc (take at b) xs (drop (at + length xs - at) (drop at b)))
-    ∙ ap (λ (r : List ℕ). take at b ++ xs ++ r) (ap (λ (k : ℕ). drop k (drop at b)) size ∙ drop-drop (length xs) at b))
 
 module _ (xs : List ℕ) (p : Page) (h : CanPut xs p) where
   -- where what is put ends

@@ -46,9 +46,10 @@ impl<'a> Page<'a> {
         ensures same_buffer { self.new.out.ghost_name ≡ self.old.out.ghost_name }
         ensures bytes { page_of self.new ≡ put bytes.now (page_of self.old) }
     {
-        let end = self.at + bytes.len();
-        self.out[self.at..end].copy_from_slice(bytes);
-        self.at = end;
+        // no copy_from_slice: the archive would need memmove from outside
+        for b in bytes {
+            self.put_byte(*b);
+        }
     }
 
     // The digits of the tenth, if there is one, then the last digit.
