@@ -4,4 +4,4 @@ use Rattle.running_alone.proofs.Alone.{report-room}
 use Rattle.examples.proofs.show.Goals as goal
 
 pub run_alone-n-requires : goal.run_alone-n-requires
-run_alone-n-requires c _ = report-room (search rules)
+run_alone-n-requires c = report-room (search rules)
