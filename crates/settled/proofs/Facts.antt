@@ -3,14 +3,16 @@ use Prim.Native.Nat.{ℕ}
 use mathlib.Core.Path.{◌≡◌, sym, ◌∙◌}
 use mathlib.Core.List.{List, []}
 use seplogic.Ra.Ura.{Ura}
-use base.Logic.{SProp, ent, sep, emp, via, emp∗, comm∗, snd∗, both⊢}
-use base.Fml.{Lft}
+use base.Logic.{SProp, ent, sep, emp, via, emp∗, comm∗, fst∗, snd∗, both⊢}
+use base.Fml.{Lft, GName}
 use contract.BorrowLft.{◌⊑◌, ⊑_static}
 use contract.Monad.{fact, fact_use, fact_i, conj, conj_l, conj_r}
 use contract.Lifetimes.{Lfts}
 use denote.Triple.Entry.{Args}
 use denote.Triple.Clauses.{Ended}
 use Rattle.written.specs.Tables.{Tables}
+use Rattle.pages.specs.Pages.{Page, page_of}
+use Rattle.pages.specs.declared.Page as lent
 use Rattle.settled.specs.Outcomes.{Outcome}
 
 -- two things that are the same third one
@@ -45,6 +47,14 @@ None R =
 abbrev pub none : {R : Type 0} → R → None R
 none r = (tt, (tt, (tt, (tt, (tt, (tt, (tt, (tt, (tt, (tt, r))))))))))
 
+-- what a page holds: the place, what stands in the buffer, and which loan the buffer is
+abbrev pub held : lent.Page → Page × GName
+held p = (page_of p, p.out.ghost_name)
+
+-- two pages of one loan that hold the same
+pub one-page : {p q : lent.Page} {n : GName} {b : Page} → p.out.ghost_name ≡ n → page_of p ≡ b → q.out.ghost_name ≡ n → page_of q ≡ b → held p ≡ held q
+one-page m p n q i = (meet p q i, meet m n i)
+
 module _ {M : Type 1} (𝓤 : Ura M) where
   pub both : {A B C : Type 0} → (A → B → C) → ent 𝓤 (conj 𝓤 (fact 𝓤 A) (fact 𝓤 B)) (fact 𝓤 C)
   both {A} {B} {C} f =
@@ -56,15 +66,17 @@ module _ {M : Type 1} (𝓤 : Ura M) where
       fact_use 𝓤 R (conj_l 𝓤 (fact 𝓤 R) (conj 𝓤 (fact 𝓤 A) (fact 𝓤 B)))
       (λ r. via 𝓤 (conj 𝓤 (fact 𝓤 A) (fact 𝓤 B)) (conj_r 𝓤 (fact 𝓤 R) (conj 𝓤 (fact 𝓤 A) (fact 𝓤 B))) (both (f r)))
 
-  -- of two clauses the second, whatever was asked
-  pub second : {A B A₂ B₂ C : Type 0} → (X : SProp 𝓤) → (B → B₂ → C)
+  -- of two clauses each, whatever was asked
+  pub each : {A B A₂ B₂ C : Type 0} → (X : SProp 𝓤) → (A → B → A₂ → B₂ → C)
       → ent 𝓤 (conj 𝓤 X (conj 𝓤 (sep 𝓤 (fact 𝓤 A) (fact 𝓤 B)) (sep 𝓤 (fact 𝓤 A₂) (fact 𝓤 B₂)))) (fact 𝓤 C)
-  second {A} {B} {A₂} {B₂} {C} X f =
+  each {A} {B} {A₂} {B₂} {C} X f =
       let P = sep 𝓤 (fact 𝓤 A) (fact 𝓤 B) in
       let Q = sep 𝓤 (fact 𝓤 A₂) (fact 𝓤 B₂) in
       via 𝓤 (conj 𝓤 P Q) (conj_r 𝓤 X (conj 𝓤 P Q))
-      (fact_use 𝓤 B (via 𝓤 P (conj_l 𝓤 P Q) (snd∗ 𝓤 (fact 𝓤 A) (fact 𝓤 B)))
-      (λ b. fact_use 𝓤 B₂ (via 𝓤 Q (conj_r 𝓤 P Q) (snd∗ 𝓤 (fact 𝓤 A₂) (fact 𝓤 B₂))) (λ d. fact_i 𝓤 C (conj 𝓤 P Q) (f b d))))
+      (fact_use 𝓤 A (via 𝓤 P (conj_l 𝓤 P Q) (fst∗ 𝓤 (fact 𝓤 A) (fact 𝓤 B)))
+      (λ a. fact_use 𝓤 B (via 𝓤 P (conj_l 𝓤 P Q) (snd∗ 𝓤 (fact 𝓤 A) (fact 𝓤 B)))
+      (λ b. fact_use 𝓤 A₂ (via 𝓤 Q (conj_r 𝓤 P Q) (fst∗ 𝓤 (fact 𝓤 A₂) (fact 𝓤 B₂)))
+      (λ c. fact_use 𝓤 B₂ (via 𝓤 Q (conj_r 𝓤 P Q) (snd∗ 𝓤 (fact 𝓤 A₂) (fact 𝓤 B₂))) (λ d. fact_i 𝓤 C (conj 𝓤 P Q) (f a b c d))))))
 
   -- beside whatever was asked
   pub past-asked : (P : SProp 𝓤) {A B C : Type 0} → (A → B → C) → ent 𝓤 (conj 𝓤 P (conj 𝓤 (fact 𝓤 A) (fact 𝓤 B))) (fact 𝓤 C)

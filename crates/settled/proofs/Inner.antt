@@ -2,6 +2,7 @@
 use Prim.Native.Nat.{ℕ}
 use mathlib.Core.Path.{refl, ap}
 use mathlib.Core.List.{List}
+use base.Fml.{GName}
 use Rattle.std.specs.Prelude.{Result, Ok, Err}
 use mir.Syntax.{Dict}
 use denote.RattleType.{RattleType}
@@ -25,11 +26,11 @@ use Rattle.reading_lines.specs.Drafting.{Desk}
 use Rattle.reading_lines.specs.Turns.{LineEnd}
 use Rattle.reading_end.specs.Clearing.{Others}
 use Rattle.reading_end.specs.Finishing.{Finished}
-use Rattle.pages.specs.Pages.{Page, page_of}
+use Rattle.pages.specs.Pages.{Page}
 use Rattle.written.specs.Drawing.{Pick}
 use Rattle.written.specs.Program.{Ran}
 use Rattle.settled.specs.Outcomes.{Public, Inner, InnerSeen}
-use Rattle.settled.proofs.Facts.{meet, same, both, all_three, second, past-asked, lent-long, ten, five}
+use Rattle.settled.proofs.Facts.{meet, same, both, all_three, each, held, one-page, past-asked, lent-long, ten, five}
 use Rattle.tables.specs.contracts.true_count as true-count
 use Rattle.tables.specs.contracts.xor_true as xor-true
 use Rattle.tables.specs.contracts.one_for as one-for
@@ -222,29 +223,29 @@ finish-settled M 𝓤 𝓛 mem run κs a g =
     }
 
 -- a page's place and its bytes, not where they lie
-pub page-new-settled : InnerSeen page-new.ended Page (λ κs a x. page_of x.result) (λ M 𝓤. page-new.clauses)
-page-new-settled M 𝓤 𝓛 mem run κs a g = record { one_seen = λ x y. second 𝓤 _ (λ p q. meet p q) }
+pub page-new-settled : InnerSeen page-new.ended (Page × GName) (λ κs a x. held x.result) (λ M 𝓤. page-new.clauses)
+page-new-settled M 𝓤 𝓛 mem run κs a g = record { one_seen = λ x y. each 𝓤 _ one-page }
 
 pub page-len-settled : Public page-len.ended (λ M 𝓤. page-len.clauses)
 page-len-settled M 𝓤 𝓛 mem run κs a g = record { asks_nothing = refl; one-outcome = λ x y. both 𝓤 (λ p q. same (meet p q) refl) }
 
-pub put-byte-settled : InnerSeen put_byte.ended Page (λ κs a x. page_of x.left.0) (λ M 𝓤. put_byte.clauses)
-put-byte-settled M 𝓤 𝓛 mem run κs a g = record { one_seen = λ x y. second 𝓤 _ (λ p q. meet p q) }
+pub put-byte-settled : InnerSeen put_byte.ended (Page × GName) (λ κs a x. held x.left.0) (λ M 𝓤. put_byte.clauses)
+put-byte-settled M 𝓤 𝓛 mem run κs a g = record { one_seen = λ x y. each 𝓤 _ one-page }
 
-pub put-all-settled : InnerSeen put_all_lem.ended Page (λ κs a x. page_of x.left.0) (λ M 𝓤. put_all_lem.clauses)
-put-all-settled M 𝓤 𝓛 mem run κs a g = record { one_seen = λ x y. second 𝓤 _ (λ p q. meet p q) }
+pub put-all-settled : InnerSeen put_all_lem.ended (Page × GName) (λ κs a x. held x.left.0) (λ M 𝓤. put_all_lem.clauses)
+put-all-settled M 𝓤 𝓛 mem run κs a g = record { one_seen = λ x y. each 𝓤 _ one-page }
 
-pub put-number-settled : InnerSeen put-number.ended Page (λ κs a x. page_of x.left.0) (λ M 𝓤. put-number.clauses)
-put-number-settled M 𝓤 𝓛 mem run κs a g = record { one_seen = λ x y. second 𝓤 _ (λ p q. meet p q) }
+pub put-number-settled : InnerSeen put-number.ended (Page × GName) (λ κs a x. held x.left.0) (λ M 𝓤. put-number.clauses)
+put-number-settled M 𝓤 𝓛 mem run κs a g = record { one_seen = λ x y. each 𝓤 _ one-page }
 
-pub put-name-settled : InnerSeen put-name.ended Page (λ κs a x. page_of x.left.0) (λ M 𝓤. put-name.clauses)
-put-name-settled M 𝓤 𝓛 mem run κs a g = record { one_seen = λ x y. second 𝓤 _ (λ p q. meet p q) }
+pub put-name-settled : InnerSeen put-name.ended (Page × GName) (λ κs a x. held x.left.0) (λ M 𝓤. put-name.clauses)
+put-name-settled M 𝓤 𝓛 mem run κs a g = record { one_seen = λ x y. each 𝓤 _ one-page }
 
-pub put-term-settled : InnerSeen put-term.ended Page (λ κs a x. page_of x.left.0) (λ M 𝓤. put-term.clauses)
-put-term-settled M 𝓤 𝓛 mem run κs a g = record { one_seen = λ x y. second 𝓤 _ (λ p q. meet p q) }
+pub put-term-settled : InnerSeen put-term.ended (Page × GName) (λ κs a x. held x.left.0) (λ M 𝓤. put-term.clauses)
+put-term-settled M 𝓤 𝓛 mem run κs a g = record { one_seen = λ x y. each 𝓤 _ one-page }
 
-pub put-line-settled : InnerSeen put-line.ended Page (λ κs a x. page_of x.left.0) (λ M 𝓤. put-line.clauses)
-put-line-settled M 𝓤 𝓛 mem run κs a g = record { one_seen = λ x y. second 𝓤 _ (λ p q. meet p q) }
+pub put-line-settled : InnerSeen put-line.ended (Page × GName) (λ κs a x. held x.left.0) (λ M 𝓤. put-line.clauses)
+put-line-settled M 𝓤 𝓛 mem run κs a g = record { one_seen = λ x y. each 𝓤 _ one-page }
 
 pub past-comments-settled : Inner past-comments.ended (λ M 𝓤. past-comments.clauses)
 past-comments-settled M 𝓤 𝓛 mem run κs a g = record { one-outcome = λ x y. all_three 𝓤 (λ r p q. same (meet p q) refl) }
