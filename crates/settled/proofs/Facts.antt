@@ -52,8 +52,8 @@ abbrev pub held : lent.Page → Page × GName
 held p = (page_of p, p.out.ghost_name)
 
 -- two pages of one loan that hold the same
-pub one-page : {p q : lent.Page} {n : GName} {b : Page} → p.out.ghost_name ≡ n → page_of p ≡ b → q.out.ghost_name ≡ n → page_of q ≡ b → held p ≡ held q
-one-page m p n q i = (meet p q i, meet m n i)
+pub one-page : (p q : lent.Page) {n : GName} {b : Page} → p.out.ghost_name ≡ n → page_of p ≡ b → q.out.ghost_name ≡ n → page_of q ≡ b → held p ≡ held q
+one-page p q m e n f i = (meet e f i, meet m n i)
 
 module _ {M : Type 1} (𝓤 : Ura M) where
   pub both : {A B C : Type 0} → (A → B → C) → ent 𝓤 (conj 𝓤 (fact 𝓤 A) (fact 𝓤 B)) (fact 𝓤 C)

@@ -224,28 +224,28 @@ finish-settled M 𝓤 𝓛 mem run κs a g =
 
 -- a page's place and its bytes, not where they lie
 pub page-new-settled : InnerSeen page-new.ended (Page × GName) (λ κs a x. held x.result) (λ M 𝓤. page-new.clauses)
-page-new-settled M 𝓤 𝓛 mem run κs a g = record { one_seen = λ x y. each 𝓤 _ one-page }
+page-new-settled M 𝓤 𝓛 mem run κs a g = record { one_seen = λ x y. each 𝓤 _ (one-page x.result y.result) }
 
 pub page-len-settled : Public page-len.ended (λ M 𝓤. page-len.clauses)
 page-len-settled M 𝓤 𝓛 mem run κs a g = record { asks_nothing = refl; one-outcome = λ x y. both 𝓤 (λ p q. same (meet p q) refl) }
 
 pub put-byte-settled : InnerSeen put_byte.ended (Page × GName) (λ κs a x. held x.left.0) (λ M 𝓤. put_byte.clauses)
-put-byte-settled M 𝓤 𝓛 mem run κs a g = record { one_seen = λ x y. each 𝓤 _ one-page }
+put-byte-settled M 𝓤 𝓛 mem run κs a g = record { one_seen = λ x y. each 𝓤 _ (one-page x.left.0 y.left.0) }
 
 pub put-all-settled : InnerSeen put_all_lem.ended (Page × GName) (λ κs a x. held x.left.0) (λ M 𝓤. put_all_lem.clauses)
-put-all-settled M 𝓤 𝓛 mem run κs a g = record { one_seen = λ x y. each 𝓤 _ one-page }
+put-all-settled M 𝓤 𝓛 mem run κs a g = record { one_seen = λ x y. each 𝓤 _ (one-page x.left.0 y.left.0) }
 
 pub put-number-settled : InnerSeen put-number.ended (Page × GName) (λ κs a x. held x.left.0) (λ M 𝓤. put-number.clauses)
-put-number-settled M 𝓤 𝓛 mem run κs a g = record { one_seen = λ x y. each 𝓤 _ one-page }
+put-number-settled M 𝓤 𝓛 mem run κs a g = record { one_seen = λ x y. each 𝓤 _ (one-page x.left.0 y.left.0) }
 
 pub put-name-settled : InnerSeen put-name.ended (Page × GName) (λ κs a x. held x.left.0) (λ M 𝓤. put-name.clauses)
-put-name-settled M 𝓤 𝓛 mem run κs a g = record { one_seen = λ x y. each 𝓤 _ one-page }
+put-name-settled M 𝓤 𝓛 mem run κs a g = record { one_seen = λ x y. each 𝓤 _ (one-page x.left.0 y.left.0) }
 
 pub put-term-settled : InnerSeen put-term.ended (Page × GName) (λ κs a x. held x.left.0) (λ M 𝓤. put-term.clauses)
-put-term-settled M 𝓤 𝓛 mem run κs a g = record { one_seen = λ x y. each 𝓤 _ one-page }
+put-term-settled M 𝓤 𝓛 mem run κs a g = record { one_seen = λ x y. each 𝓤 _ (one-page x.left.0 y.left.0) }
 
 pub put-line-settled : InnerSeen put-line.ended (Page × GName) (λ κs a x. held x.left.0) (λ M 𝓤. put-line.clauses)
-put-line-settled M 𝓤 𝓛 mem run κs a g = record { one_seen = λ x y. each 𝓤 _ one-page }
+put-line-settled M 𝓤 𝓛 mem run κs a g = record { one_seen = λ x y. each 𝓤 _ (one-page x.left.0 y.left.0) }
 
 pub past-comments-settled : Inner past-comments.ended (λ M 𝓤. past-comments.clauses)
 past-comments-settled M 𝓤 𝓛 mem run κs a g = record { one-outcome = λ x y. all_three 𝓤 (λ r p q. same (meet p q) refl) }
