@@ -57,20 +57,20 @@ pub fn after_literal(t: Result<Taken, Reason>, p: Place, line: usize) -> Result<
     requires { (line < 2 ^ 32) × (p.terms < 2 ^ 16) × (p.held < 2 ^ 16) }
     ensures { result ≡ after_literal t p line }
 {
-    let next = match t.map_err(|reason| fault_at(reason, line))? {
-        Taken::Held => Next::Goes(Place {
+    match t {
+        Ok(Taken::Held) => Ok(Next::Goes(Place {
             held: p.held + 1,
             ..p
-        }),
-        Taken::Grown => Next::Goes(Place {
+        })),
+        Ok(Taken::Grown) => Ok(Next::Goes(Place {
             terms: p.terms + 1,
             held: p.held + 1,
             ..p
-        }),
-        Taken::Skipped => Next::Goes(p),
-        Taken::Dropped => Next::Drops(given_back(p)),
-    };
-    Ok(next)
+        })),
+        Ok(Taken::Skipped) => Ok(Next::Goes(p)),
+        Ok(Taken::Dropped) => Ok(Next::Drops(given_back(p))),
+        Err(reason) => Err(fault_at(reason, line)),
+    }
 }
 
 // A line with literals is kept as a clause, if there is room for one; a line without is refused.
