@@ -222,7 +222,7 @@ finish-settled M 𝓤 𝓛 mem run κs a g =
           (ap (λ (w : Finished). (tt, (tt, (tt, (w.clauses.literals, (w.clauses.occurrence_starts, (w.clauses.occurrences, counted w.moved tt))))))) e));
     }
 
--- a page's place and its bytes, not where they lie
+-- a page: its place, what stands in its buffer and which loan that is, not where it keeps the reference
 pub page-new-settled : InnerSeen page-new.ended (Page × GName) (λ κs a x. held x.result) (λ M 𝓤. page-new.clauses)
 page-new-settled M 𝓤 𝓛 mem run κs a g = record { one_seen = λ x y. each 𝓤 _ (one-page x.result y.result) }
 
