@@ -18,9 +18,8 @@ put_number-requires c =
     ]
 
 pub returns-clause-bytes : goal.returns-clause-bytes
-returns-clause-bytes c =
-    elim c.if-value-eq0.branch [
-      | then-value-eq0 w ↦ ended
-          (onward (onward (split _ _ (signed_no _ _ w.if-value-eq0.true) (begun _ [] _ c.requires)) (ap page_of w.page-is ∙ w.put_byte.ensures.bytes)) c.put_number.ensures.bytes)
-      | else-value-eq0 w ↦ rw (signed_yes _ _ w.if-value-eq0.false) (rw w.page-is at c.put_number.ensures.bytes)
-    ]
+returns-clause-bytes c = elim c.if-value-eq0.branch [
+  | then-value-eq0 w ↦ ended
+      (onward (onward (split _ _ (signed_no _ _ w.if-value-eq0.true) (begun _ [] _ c.requires)) (ap page_of w.page-is ∙ w.put_byte.ensures.bytes)) c.put_number.ensures.bytes)
+  | else-value-eq0 w ↦ rw (signed_yes _ _ w.if-value-eq0.false) (rw w.page-is at c.put_number.ensures.bytes)
+]
